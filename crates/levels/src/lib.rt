@@ -1,0 +1,1 @@
+// The levels of an x-fast trie over any lawful dictionary.
