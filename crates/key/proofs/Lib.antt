@@ -1,2 +1,4 @@
+pub mod Order
 pub mod Same
+pub mod Sevens
 pub mod Within

@@ -7,13 +7,13 @@
 --   within                                                    a key for each number below a bound
 --   first-then                                                by a first number, then by a second
 --   byte-by-byte                                              by the first byte in which two rows differ
---   filled-up                                                 seven bytes: a text, and zero bytes after it
-use Prim.Native.Nat.{ℕ, zero, suc, _+_, _-_, _*_, _/_, _%_, _^_, _<_, _≤_}
+--   seven                                                     a number's last seven bytes, the first one highest
+use Prim.Native.Nat.{ℕ, zero, suc, _+_, _*_, _/_, _%_, _^_, _<_, _≤_}
 use mathlib.Core.Path.{_≡_, refl}
 use mathlib.Core.Bool.{Bool, true, false, cond, _&&_, _||_}
 use mathlib.Core.List.{List, [], _∷_, _++_}
 use lib.Dec.{ltb, eqb}
-use lib.ListN.{length, getD, replicate}
+use lib.ListN.{length, getD}
 use native.Mathlib.Omega.{arith}
 use Rattle.std.specs.shelf.Digits.{number}
 use Rattle.std.specs.declared.option.Option.{Option}
@@ -100,6 +100,3 @@ name-of n = within (2 ^ 56) name-at n
 
 abbrev pub name-before : Name → Name → Bool
 name-before a b = byte-by-byte (a .bytes) (b .bytes)
-
-abbrev pub filled-up : List ℕ → List ℕ
-filled-up text = text ++ replicate (7 - length text) 0

@@ -1,0 +1,19 @@
+use Prim.Native.Nat.{_^_}
+use native.Mathlib.Omega.{arith}
+use Rattle.key.specs.Kinds.{station-at, station-bits}
+use Rattle.key.proofs.Order.{first-then-bits}
+use Rattle.key.proofs.Same.{station-same}
+use Rattle.key.proofs.Within.{within-again, within-exact, within-every}
+use Rattle.key.proofs.station.StationKey.the-impl.Needs as need
+
+pub again-law : need.again-law
+again-law k = within-again (2 ^ 32) station-at (station-bits k) k (omega arith) (station-same _ _ (omega arith) (omega arith))
+
+pub exact-law : need.exact-law
+exact-law n k e = within-exact (2 ^ 32) station-at station-bits (λ n h. omega arith) n k e
+
+pub every-law : need.every-law
+every-law n h = within-every (2 ^ 32) station-at n h
+
+pub ordered-law : need.ordered-law
+ordered-law a b = first-then-bits _ (a .piste) (a .decimetre) (b .piste) (b .decimetre) (a .fits .1) (b .fits .1)
