@@ -1,5 +1,3 @@
-pub mod Order
-pub mod Same
-pub mod Sevens
-pub mod Within
 pub mod Logs
+pub mod Same
+pub mod Within

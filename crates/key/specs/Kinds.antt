@@ -5,31 +5,19 @@
 --   zone-before, station-before, moment-before, name-before   the kind's own order
 --   zone-at, station-at, moment-at, name-at                   the same, taking the number modulo 2^w
 --   within                                                    a key for each number below a bound
---   first-then                                                by a first number, then by a second
---   byte-by-byte                                              by the first byte in which two rows differ
---   seven                                                     a number's last seven bytes, the first one highest
-use Prim.Native.Nat.{ℕ, zero, suc, _+_, _*_, _/_, _%_, _^_, _<_, _≤_}
-use mathlib.Core.Path.{_≡_, refl}
-use mathlib.Core.Bool.{Bool, true, false, cond, _&&_, _||_}
-use mathlib.Core.List.{List, [], _∷_, _++_}
-use lib.Dec.{ltb, eqb}
-use lib.ListN.{length, getD}
+use Prim.Native.Nat.{ℕ, _+_, _*_, _/_, _%_, _^_}
+use mathlib.Core.Path.{refl}
+use mathlib.Core.Bool.{Bool, cond}
+use lib.Dec.{ltb}
 use native.Mathlib.Omega.{arith}
 use Rattle.std.specs.shelf.Digits.{number}
 use Rattle.std.specs.declared.option.Option.{Option}
 use Rattle.std.specs.declared.option.Option.the-variants.{Some, None}
+use Rattle.digits.specs.Parts.{first-then, byte-by-byte, seven, seven-fits}
 use Rattle.key.specs.declared.kinds.Zone.{Zone}
 use Rattle.key.specs.declared.kinds.Station.{Station}
 use Rattle.key.specs.declared.kinds.Moment.{Moment}
 use Rattle.key.specs.declared.kinds.Name.{Name}
-
-abbrev pub first-then : ℕ → ℕ → ℕ → ℕ → Bool
-first-then a b c d = ltb a c || (eqb a c && ltb b d)
-
-abbrev pub byte-by-byte : List ℕ → List ℕ → Bool
-byte-by-byte [] ys = false
-byte-by-byte (x ∷ xs) [] = false
-byte-by-byte (x ∷ xs) (y ∷ ys) = ltb x y || (eqb x y && byte-by-byte xs ys)
 
 abbrev pub within : {K : Type 0} → ℕ → (ℕ → K) → ℕ → Option K
 within bound at n = cond (ltb n bound) (Some (at n)) None
@@ -76,21 +64,6 @@ moment-before a b = first-then (a .second) (a .sequence) (b .second) (b .sequenc
 -- ---- names: seven bytes, the first one highest
 abbrev pub name-bits : Name → ℕ
 name-bits n = number 256 (n .bytes)
-
-abbrev pub seven : ℕ → List ℕ
-seven n =
-    (n / 2 ^ 48 % 256) ∷ (n / 2 ^ 40 % 256) ∷ (n / 2 ^ 32 % 256) ∷ (n / 2 ^ 24 % 256) ∷ (n / 2 ^ 16 % 256) ∷ (n / 2 ^ 8 % 256) ∷ (n % 256) ∷ []
-
--- each of the seven is a byte
-pub seven-fits : (n i : ℕ) → getD (seven n) i 0 < 2 ^ 8
-seven-fits n zero = omega arith
-seven-fits n (suc zero) = omega arith
-seven-fits n (suc (suc zero)) = omega arith
-seven-fits n (suc (suc (suc zero))) = omega arith
-seven-fits n (suc (suc (suc (suc zero)))) = omega arith
-seven-fits n (suc (suc (suc (suc (suc zero))))) = omega arith
-seven-fits n (suc (suc (suc (suc (suc (suc zero)))))) = omega arith
-seven-fits n (suc (suc (suc (suc (suc (suc (suc i))))))) = omega arith
 
 abbrev pub name-at : ℕ → Name
 name-at n = record { bytes = seven n; long = refl; fits = seven-fits n }

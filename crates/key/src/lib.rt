@@ -55,3 +55,6 @@ pub trait Key: Sized {
     fn is_before(&self, other: &Self) -> bool
         ensures { λ r. ⌜ r ≡ before (now (self .entry)) (now (other .entry)) ⌝ };
 }
+
+#[cfg(test)]
+mod tests;

@@ -1,29 +1,8 @@
 // Moments: by second, then by sequence.
 ghost use mathlib.Core.Path.{_≡_};
-ghost use Prim.Native.Nat.{_^_, _<_, _≤_};
 ghost use Rattle.key.specs.Kinds.{moment-bits, moment-of, moment-before};
 use crate::Key;
 use crate::kinds::Moment;
-
-impl Moment {
-    pub fn new(second: u32, sequence: u16) -> Moment
-        ensures { λ r. ⌜ (r .second ≡ second) × (r .sequence ≡ sequence) ⌝ }
-    {
-        Moment { second, sequence }
-    }
-
-    pub fn second(self) -> u32
-        ensures { λ r. ⌜ r ≡ self .second ⌝ }
-    {
-        self.second
-    }
-
-    pub fn sequence(self) -> u16
-        ensures { λ r. ⌜ r ≡ self .sequence ⌝ }
-    {
-        self.sequence
-    }
-}
 
 pub impl Key for Moment as MomentKey {
     const WIDTH: u32 = 48;

@@ -1,35 +1,8 @@
 // Stations: by piste, then by decimetre.
 ghost use mathlib.Core.Path.{_≡_};
-ghost use Prim.Native.Nat.{_^_, _<_, _≤_};
-ghost use Rattle.std.specs.Options.{Cases as BySome};
 ghost use Rattle.key.specs.Kinds.{station-bits, station-of, station-before};
 use crate::Key;
 use crate::kinds::Station;
-
-impl Station {
-    // Nothing where the decimetre does not fit 24 bits.
-    pub fn new(piste: u8, decimetre: u32) -> Option<Station>
-        ensures { λ r. ⌜ BySome r (2 ^ 24 ≤ decimetre) (λ s. (decimetre < 2 ^ 24) × (s .piste ≡ piste) × (s .decimetre ≡ decimetre)) ⌝ }
-    {
-        if decimetre < 0x100_0000 {
-            Some(Station { piste, decimetre })
-        } else {
-            None
-        }
-    }
-
-    pub fn piste(self) -> u8
-        ensures { λ r. ⌜ r ≡ self .piste ⌝ }
-    {
-        self.piste
-    }
-
-    pub fn decimetre(self) -> u32
-        ensures { λ r. ⌜ r ≡ self .decimetre ⌝ }
-    {
-        self.decimetre
-    }
-}
 
 pub impl Key for Station as StationKey {
     const WIDTH: u32 = 32;

@@ -4,20 +4,6 @@ ghost use Rattle.key.specs.Kinds.{zone-bits, zone-of, zone-before};
 use crate::Key;
 use crate::kinds::Zone;
 
-impl Zone {
-    pub fn new(number: u8) -> Zone
-        ensures { λ r. ⌜ r .number ≡ number ⌝ }
-    {
-        Zone { number }
-    }
-
-    pub fn number(self) -> u8
-        ensures { λ r. ⌜ r ≡ self .number ⌝ }
-    {
-        self.number
-    }
-}
-
 pub impl Key for Zone as ZoneKey {
     const WIDTH: u32 = 8;
 

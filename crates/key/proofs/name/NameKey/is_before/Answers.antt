@@ -1,7 +1,7 @@
 use Prim.Native.Nat.{_<_}
 use mathlib.Core.Path.{sym, _∙_}
 use native.Mathlib.Omega.{arith}
-use Rattle.key.proofs.Order.{differ-at, differ-nowhere}
+use Rattle.digits.proofs.Order.{differ-at, differ-nowhere}
 use Rattle.key.proofs.name.NameKey.is_before.Needs as need
 
 pub returns-then-self-i : need.returns-then-self-i

@@ -5,9 +5,9 @@ use lib.ListN.{length}
 use Rattle.std.proofs.shelf.Digits.{number-lt}
 use Rattle.key.specs.Kinds.{name-at, name-bits}
 use Rattle.key.specs.declared.kinds.Name.{Name}
-use Rattle.key.proofs.Order.{bytes-order}
+use Rattle.digits.proofs.Order.{bytes-order}
 use Rattle.key.proofs.Same.{name-same}
-use Rattle.key.proofs.Sevens.{seven-back, seven-of, bytes-under}
+use Rattle.digits.proofs.Sevens.{seven-back, seven-of, bytes-under}
 use Rattle.key.proofs.Within.{within-again, within-exact, within-every}
 use Rattle.key.proofs.name.NameKey.the-impl.Needs as need
 

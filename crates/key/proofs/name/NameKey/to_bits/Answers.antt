@@ -1,6 +1,6 @@
 use mathlib.Core.Path.{sym, _∙_}
 use native.Mathlib.Omega.{arith}
-use Rattle.key.proofs.Sevens.{seven-weighs}
+use Rattle.digits.proofs.Sevens.{seven-weighs}
 use Rattle.key.proofs.name.NameKey.to_bits.Needs as need
 
 pub returns : need.returns

@@ -1,7 +1,7 @@
 use Prim.Native.Nat.{_^_}
 use native.Mathlib.Omega.{arith}
 use Rattle.key.specs.Kinds.{station-at, station-bits}
-use Rattle.key.proofs.Order.{first-then-bits}
+use Rattle.digits.proofs.Order.{first-then-bits}
 use Rattle.key.proofs.Same.{station-same}
 use Rattle.key.proofs.Within.{within-again, within-exact, within-every}
 use Rattle.key.proofs.station.StationKey.the-impl.Needs as need

@@ -6,8 +6,7 @@ use lib.ListN.{length, getD}
 use native.Mathlib.Omega.{arith}
 use Rattle.std.specs.shelf.Digits.{number, Under}
 use Rattle.std.proofs.shelf.Elements.{all-from-getD}
-use Rattle.key.specs.Kinds.{seven, name-bits, name-at}
-use Rattle.key.specs.declared.kinds.Name.{Name}
+use Rattle.digits.specs.Parts.{seven}
 
 pub seven-back : (n : ℕ) → n < 2 ^ 56 → number 256 (seven n) ≡ n
 seven-back n h = omega arith

@@ -12,7 +12,7 @@ use Rattle.std.specs.shelf.Digits.{number, numberAfter, Under}
 use Rattle.std.proofs.shelf.Digits.{number-lt}
 use Rattle.std.proofs.shelf.Tests.{cases-lt}
 use Rattle.std.proofs.shelf.Ways.{tells}
-use Rattle.key.specs.Kinds.{first-then, byte-by-byte}
+use Rattle.digits.specs.Parts.{first-then, byte-by-byte}
 
 -- a higher part that is smaller decides
 higher : (n a b c : ℕ) → b < n → a < c → a * n + b < c * n

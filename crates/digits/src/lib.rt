@@ -1,0 +1,1 @@
+// Numbers made of parts, the first one highest: definitions and lemmas only.
