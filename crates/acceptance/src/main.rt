@@ -4,8 +4,8 @@
 mod stages;
 
 use dictionary::Dictionary;
-use robin_hood::RobinHood;
-use robin_hood::RobinHoodDictionary;
+use robin_hood::table::RobinHood;
+use robin_hood::table::RobinHoodDictionary;
 use stages::PAIRS;
 use stages::clear;
 use stages::fill;
