@@ -1,0 +1,5 @@
+pub mod Numbers
+pub mod Fitness
+pub mod Sorted
+pub mod Kinds
+pub mod Runs
