@@ -60,7 +60,11 @@ fn accept<D: Dictionary>(rt: &impl Print, name: &str, store: &mut D) -> io::Resu
     let full = accept_full(rt, store)?;
     let refusals = accept_refusals(rt, store)?;
     let empty = accept_empty(rt, store)?;
-    let verdict = if full && refusals && empty { "accepted" } else { "REFUSED" };
+    let verdict = if full && refusals && empty {
+        "accepted"
+    } else {
+        "REFUSED"
+    };
     println!(rt, "{name}: {verdict}")
 }
 

@@ -3,3 +3,4 @@ pub mod Fitness
 pub mod Sorted
 pub mod Kinds
 pub mod Runs
+pub mod Meaning
