@@ -9,8 +9,9 @@ use Rattle.std.proofs.shelf.Tests.{cases-lt, cases-eq}
 use Rattle.slots.specs.declared.Slot.{Slot}
 use Rattle.slots.specs.Slots.{blank, nodeAt, pairsOf, held, Apart}
 use Rattle.robin_hood.specs.Layout.{rankAt, Spread}
-use Rattle.slots.proofs.Rows.{node-same, node-other, apart-set, pairs-found, pairs-here, pairs-fill, pairs-clear, out-apart}
-use Rattle.slots.proofs.Counts.{held-more, held-less, held-all}
+use Rattle.slots.proofs.Rows.{node-same, node-other, out-apart}
+use Rattle.slots.proofs.Moves.{move-apart, move-held, move-pairs}
+use Rattle.slots.proofs.Counts.{held-more, held-all}
 use Rattle.robin_hood.proofs.Rings.{rank-back, rank-zero, rank-same, rank-other}
 
 -- from a row with a hole at b to the row xs with the hole at b + k, whose followers are not yet moved
@@ -91,19 +92,6 @@ module _ {xs₀ : List Slot} {b : ℕ} {xs : List Slot} {k : ℕ} (s : Hole xs�
     p-n : p ≢ n
     p-n = omega arith
 
-    ys-hole : nodeAt ys p ≡ 0
-    ys-hole = node-other xs n blank n-within p p-n ∙ s .hole
-
-    ys-apart : Apart ys
-    ys-apart = apart-set xs n blank n-within (s .apart) (λ i ne e pos. omega arith)
-
-    zs-apart : Apart (set ys p f)
-    zs-apart = apart-set ys p f p-within ys-apart (λ i ne e pos.
-        ⊎-elim
-        (λ (a : i ≡ n). omega (arith, ap (nodeAt ys) a, node-same xs n blank n-within))
-        (λ (na : i ≡ n → ⊥). na (s .apart i n (omega (arith, node-other xs n blank n-within i na), sym (node-other xs n blank n-within i na) ∙ e)))
-        (cases-eq i n))
-
     rank-p : (i : ℕ) → i ≡ p → rankAt (set ys p f) i + 1 ≡ rankAt xs n
     rank-p i e = omega (arith, rank-same ys p f p-within i e, rank-back (f .node) (b + k) high)
 
@@ -122,15 +110,10 @@ module _ {xs₀ : List Slot} {b : ℕ} {xs : List Slot} {k : ℕ} (s : Hole xs�
         let e₂ : (b + (k + 1) + 1023) % 1024 ≡ p = omega arith in
         record {
           long = length-set ys p f ∙ length-set xs n blank ∙ s .long;
-          apart = zs-apart;
+          apart = move-apart xs n p n-within (omega (arith, s .long)) p-n (s .hole) f-some (s .apart);
           hole = ap (nodeAt (set ys p f)) e₀ ∙ node-other ys p f p-within n (λ e. p-n (sym e)) ∙ node-same xs n blank n-within;
-          count = omega (arith, held-more ys p f p-within ys-hole f-some, held-less xs n blank n-within f-some refl, s .count);
-          pairs = λ m.
-              ⊎-elim
-              (λ (a : m ≡ f .node). ap (pairsOf (set ys p f)) a ∙ pairs-here ys p f p-within ys-apart zs-apart f-some ∙ sym (pairs-found xs (s .apart) n m (omega (arith, f-some)) (sym a)))
-              (λ (na : m ≡ f .node → ⊥). pairs-fill ys p f p-within ys-apart zs-apart m ys-hole na ∙ pairs-clear xs n blank n-within (s .apart) ys-apart m refl na)
-              (cases-eq m (f .node))
-              ∙ s .pairs m;
+          count = move-held xs n p n-within (omega (arith, s .long)) p-n (s .hole) f-some (s .apart) ∙ s .count;
+          pairs = λ m. move-pairs xs n p n-within (omega (arith, s .long)) p-n (s .hole) f-some (s .apart) m ∙ s .pairs m;
           passed = λ j l.
               let nn : (b + j) % 1024 ≢ n = omega arith in
               ⊎-elim

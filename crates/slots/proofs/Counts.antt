@@ -1,12 +1,12 @@
 -- How many slots of a row are taken, before and after one is written.
-use Prim.Native.Nat.{ℕ, zero, suc, _+_, _<_}
+use Prim.Native.Nat.{ℕ, zero, suc, _+_, _<_, _≤_}
 use mathlib.Core.Path.{_≡_, refl}
 use mathlib.Core.List.{List, [], _∷_}
 use mathlib.Core.Logic.{inl, inr}
 use mathlib.Core.Bool.{cond}
 use native.Mathlib.Omega.{arith}
 use lib.Dec.{eqb}
-use lib.ListN.{length, set, replicate}
+use lib.ListN.{length, set, drop, replicate}
 use Rattle.std.proofs.shelf.Tests.{cases-bool}
 use Rattle.std.proofs.shelf.Ways.{tells}
 use Rattle.slots.specs.declared.Slot.{Slot}
@@ -47,6 +47,28 @@ held-all (s ∷ ss) all =
     let t : 0 < s .node = all zero (omega arith) in
     let e : held (s ∷ ss) ≡ weight (s .node) + held ss = held-cons s ss in
     grind (arith, tells)
+
+-- a row that is taken up to a slot and empty from there on
+pub held-packed : (xs : List Slot) (n : ℕ) → ((k : ℕ) → k < n → 0 < nodeAt xs k) → ((k : ℕ) → n ≤ k → nodeAt xs k ≡ 0) → held xs ≡ n
+unfolding nodesOf
+held-packed [] zero taken free = refl
+held-packed [] (suc n) taken free = absurd (omega (arith, taken zero (omega arith)))
+held-packed (s ∷ ss) zero taken free =
+    let more = held-packed ss zero (λ k h. absurd (omega arith)) (λ k h. free (suc k) (omega arith)) in
+    let e = free zero (omega arith) in
+    let c = held-cons s ss in
+    grind (arith, tells)
+held-packed (s ∷ ss) (suc n) taken free =
+    let more = held-packed ss n (λ k h. taken (suc k) (omega arith)) (λ k h. free (suc k) (omega arith)) in
+    let e = taken zero (omega arith) in
+    let c = held-cons s ss in
+    grind (arith, tells)
+
+-- a part of a row holds no more than the row
+pub held-drop : (k : ℕ) (xs : List Slot) → held (drop k xs) ≤ held xs
+held-drop zero xs = omega arith
+held-drop (suc k) [] = omega arith
+held-drop (suc k) (s ∷ ss) = omega (arith, held-drop k ss, held-cons s ss)
 
 -- a row of empty slots
 pub fresh-nodes : (n : ℕ) → nodesOf (replicate n blank) ≡ []

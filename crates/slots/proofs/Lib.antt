@@ -1,4 +1,5 @@
 pub mod Rows
 pub mod Counts
 pub mod Carried
+pub mod Moves
 pub mod Laws

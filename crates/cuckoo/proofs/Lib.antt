@@ -1,0 +1,4 @@
+pub mod Standing
+pub mod Packing
+pub mod Pushes
+pub mod Drops
