@@ -11,7 +11,7 @@ use slots::Slot;
 
 // Takes the pair in the slot `at` away. In the overflow row the last pair fills the hole, so that the
 // row stays packed. Answers how many slots of that row are taken.
-pub fn erase(slots: &mut [Slot; 1792], spilled: u16, at: usize) -> u16
+pub(crate) fn erase(slots: &mut [Slot; 1792], spilled: u16, at: usize) -> u16
     requires placed { ⌜ Placed (now slots) ⌝ }
     requires apart { ⌜ Apart (now slots) ⌝ }
     requires packed { ⌜ Packed (now slots) spilled ⌝ }

@@ -11,7 +11,7 @@ use crate::homes::second;
 use slots::Slot;
 
 // The slot that holds `node`, if one does.
-pub fn find(slots: &[Slot; 1792], spilled: u16, node: u64) -> Option<usize>
+pub(crate) fn find(slots: &[Slot; 1792], spilled: u16, node: u64) -> Option<usize>
     requires placed { ⌜ Placed (now slots) ⌝ }
     requires packed { ⌜ Packed (now slots) spilled ⌝ }
     requires some { ⌜ 0 < node ⌝ }

@@ -4,12 +4,12 @@ ghost use mathlib.Core.Path.{_≡_};
 ghost use Prim.Native.Nat.{_<_, _≤_};
 ghost use Rattle.cuckoo.specs.Homes.{firstOf, secondOf, homeOf, otherOf};
 
-pub const ROW: usize = 512;
+pub(crate) const ROW: usize = 512;
 
-pub const OVERFLOW: usize = 1024;
+pub(crate) const OVERFLOW: usize = 1024;
 
 // The home in row one: the top 9 bits of the product's low 64.
-pub fn first(node: u64) -> usize
+pub(crate) fn first(node: u64) -> usize
     ensures value { λ r. ⌜ r ≡ firstOf node ⌝ }
     ensures below { λ r. ⌜ r < 512 ⌝ }
 {
@@ -17,7 +17,7 @@ pub fn first(node: u64) -> usize
 }
 
 // The home in row two: the top 9 bits of another product's low 64.
-pub fn second(node: u64) -> usize
+pub(crate) fn second(node: u64) -> usize
     ensures value { λ r. ⌜ r ≡ secondOf node ⌝ }
     ensures above { λ r. ⌜ 512 ≤ r ⌝ }
     ensures below { λ r. ⌜ r < 1024 ⌝ }
@@ -26,7 +26,7 @@ pub fn second(node: u64) -> usize
 }
 
 // The home of `node` in the other row than that of `at`.
-pub fn other(at: usize, node: u64) -> usize
+pub(crate) fn other(at: usize, node: u64) -> usize
     ensures value { λ r. ⌜ r ≡ otherOf at node ⌝ }
     ensures below { λ r. ⌜ r < 1024 ⌝ }
     ensures home { λ r. ⌜ homeOf r node ≡ r ⌝ }

@@ -16,7 +16,7 @@ const PUSHES: usize = 32;
 
 // Puts in a new pair. It takes its home in row one and pushes the resident to its other home, and so
 // on; the pair pushed last goes to the overflow row. Answers how many slots of that row are taken.
-pub fn insert(slots: &mut [Slot; 1792], spilled: u16, new: Slot) -> u16
+pub(crate) fn insert(slots: &mut [Slot; 1792], spilled: u16, new: Slot) -> u16
     requires placed { ⌜ Placed (now slots) ⌝ }
     requires apart { ⌜ Apart (now slots) ⌝ }
     requires packed { ⌜ Packed (now slots) spilled ⌝ }

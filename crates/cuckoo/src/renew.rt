@@ -8,7 +8,7 @@ ghost use Rattle.slots.specs.Slots.{nodeAt, linksOf, pairsOf, held, Apart};
 use slots::Slot;
 
 // Gives the node in the slot `at` new links.
-pub fn renew(slots: &mut [Slot; 1792], at: usize, new: Slot)
+pub(crate) fn renew(slots: &mut [Slot; 1792], at: usize, new: Slot)
     requires placed { ⌜ Placed (now slots) ⌝ }
     requires apart { ⌜ Apart (now slots) ⌝ }
     requires some { ⌜ 0 < new .node ⌝ }

@@ -2,7 +2,7 @@
 // no node stands twice, at most 768 slots are taken and counted, and the tally fits its type: what
 // every call relies on and keeps.
 ghost use mathlib.Core.Path.{_≡_};
-ghost use Prim.Native.Nat.{ℕ, _^_, _<_, _≤_};
+ghost use Prim.Native.Nat.{_^_, _<_, _≤_};
 ghost use lib.ListN.{drop};
 ghost use Rattle.cuckoo.specs.Layout.{Placed, Packed};
 ghost use Rattle.slots.specs.Slots.{pairsOf, nodesOf, held, Apart};

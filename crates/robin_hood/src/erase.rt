@@ -14,7 +14,7 @@ use slots::Slot;
 
 // Takes the pair in the slot `from` away, and moves the followers back by one, up to an empty slot
 // or one of displacement 0.
-pub fn erase(slots: &mut [Slot; 1024], from: usize)
+pub(crate) fn erase(slots: &mut [Slot; 1024], from: usize)
     requires spread { ⌜ Spread (now slots) ⌝ }
     requires apart { ⌜ Apart (now slots) ⌝ }
     requires within { ⌜ from < 1024 ⌝ }

@@ -11,7 +11,7 @@ use crate::home::rank;
 use slots::Slot;
 
 // The slot that holds `node`, or else the slot at which the walk for it stops.
-pub fn find(slots: &[Slot; 1024], node: u64) -> Result<usize, usize>
+pub(crate) fn find(slots: &[Slot; 1024], node: u64) -> Result<usize, usize>
     requires spread { ⌜ Spread (now slots) ⌝ }
     requires some { ⌜ 0 < node ⌝ }
     requires room { ⌜ held (now slots) < 1024 ⌝ }

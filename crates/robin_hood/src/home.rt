@@ -3,13 +3,13 @@ ghost use mathlib.Core.Path.{_≡_};
 ghost use Prim.Native.Nat.{_<_};
 ghost use Rattle.robin_hood.specs.Homes.{homeOf, awayOf, rankOf};
 
-pub const SLOTS: usize = 1024;
+pub(crate) const SLOTS: usize = 1024;
 
 // The rank of a node that stands at its home.
-pub const AT_HOME: usize = 1;
+pub(crate) const AT_HOME: usize = 1;
 
 // The top 10 bits of the product's low 64.
-pub fn home(node: u64) -> usize
+pub(crate) fn home(node: u64) -> usize
     ensures value { λ r. ⌜ r ≡ homeOf node ⌝ }
     ensures below { λ r. ⌜ r < 1024 ⌝ }
 {
@@ -17,7 +17,7 @@ pub fn home(node: u64) -> usize
 }
 
 // How far `at` lies after the home of `node`.
-pub fn displacement(node: u64, at: usize) -> usize
+pub(crate) fn displacement(node: u64, at: usize) -> usize
     requires { ⌜ at < 1024 ⌝ }
     ensures { λ r. ⌜ r ≡ awayOf at node ⌝ }
 {
@@ -25,7 +25,7 @@ pub fn displacement(node: u64, at: usize) -> usize
 }
 
 // 0 for an empty slot, otherwise one more than the displacement: one number to compare by.
-pub fn rank(node: u64, at: usize) -> usize
+pub(crate) fn rank(node: u64, at: usize) -> usize
     requires { ⌜ at < 1024 ⌝ }
     ensures { λ r. ⌜ r ≡ rankOf at node ⌝ }
 {

@@ -12,7 +12,7 @@ use slots::Slot;
 
 // Puts in a new pair, from its home on. A resident of smaller displacement changes places with the
 // pair carried.
-pub fn insert(slots: &mut [Slot; 1024], new: Slot)
+pub(crate) fn insert(slots: &mut [Slot; 1024], new: Slot)
     requires spread { ⌜ Spread (now slots) ⌝ }
     requires apart { ⌜ Apart (now slots) ⌝ }
     requires some { ⌜ 0 < new .node ⌝ }

@@ -1,7 +1,7 @@
 // The dictionary. Its slots are spread and hold no node twice, at most 768 of them are taken and
 // counted, and the tally fits its type: what every call relies on and keeps.
 ghost use mathlib.Core.Path.{_≡_};
-ghost use Prim.Native.Nat.{ℕ, _^_, _<_, _≤_};
+ghost use Prim.Native.Nat.{_^_, _<_, _≤_};
 ghost use Rattle.robin_hood.specs.Layout.{Spread};
 ghost use Rattle.slots.specs.Slots.{pairsOf, nodesOf, held, Apart};
 use crate::erase::erase;
