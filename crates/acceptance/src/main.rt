@@ -3,6 +3,8 @@
 // dictionary means.
 mod stages;
 
+use cuckoo::table::Cuckoo;
+use cuckoo::table::CuckooDictionary;
 use dictionary::Dictionary;
 use robin_hood::table::RobinHood;
 use robin_hood::table::RobinHoodDictionary;
@@ -68,7 +70,21 @@ fn accept<D: Dictionary>(rt: &impl Print, name: &str, store: &mut D) -> io::Resu
     println!(rt, "{name}: {verdict}")
 }
 
+// How many of the crowded pairs a cuckoo module cannot seat at a home.
+fn show_spill(rt: &impl Print) -> io::Result<()> {
+    let mut cuckoo: Cuckoo = CuckooDictionary::new();
+    let taken = fill(&mut cuckoo, PAIRS, 0);
+    let spilled = cuckoo.spilled();
+    println!(
+        rt,
+        "Cuckoo: of {taken} pairs {spilled} went to the overflow row"
+    )
+}
+
 fn main(rt: LibcRuntime) -> io::Result<()> {
     let mut robin_hood: RobinHood = RobinHoodDictionary::new();
-    accept(&rt, "Robin Hood", &mut robin_hood)
+    accept(&rt, "Robin Hood", &mut robin_hood)?;
+    let mut cuckoo: Cuckoo = CuckooDictionary::new();
+    accept(&rt, "Cuckoo", &mut cuckoo)?;
+    show_spill(&rt)
 }
