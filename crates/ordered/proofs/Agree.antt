@@ -1,8 +1,8 @@
 -- The list of a kind's own keys against the list by bits.
-use Prim.Native.Nat.{ℕ, _^_, _<_, _≤_}
+use Prim.Native.Nat.{ℕ, _^_}
 use mathlib.Core.Path.{_≡_, refl, sym, ap, subst, _∙_}
-use mathlib.Core.Bool.{Bool, true, false, cond, not, _&&_, _||_}
-use mathlib.Core.List.{List, [], _∷_, _++_, map}
+use mathlib.Core.Bool.{Bool, true, false, not, _||_}
+use mathlib.Core.List.{List, [], _∷_, map}
 use mathlib.Core.Logic.{_⊎_, inl, inr}
 use native.Mathlib.Omega.{arith}
 use lib.Dec.{leb, ltb, eqb}
@@ -10,19 +10,19 @@ use lib.ListN.{length}
 use Rattle.std.specs.Options.{isSome}
 use Rattle.std.specs.shelf.Lists.{kept-by}
 use Rattle.std.proofs.shelf.Lists.{map-append, length-map}
-use Rattle.std.proofs.shelf.Tests.{cases-bool, cases-lt, cond-true, cond-false, le-leb, lt-leb, or-left, or-right, true≢false, false≢true}
+use Rattle.std.proofs.shelf.Tests.{cases-bool, cases-lt, le-leb, lt-leb, or-left, or-right, true≢false}
 use Rattle.std.proofs.shelf.Ways.{tells as tests}
 use Rattle.std.specs.declared.option.Option.{Option}
 use Rattle.std.specs.declared.option.Option.the-variants.{Some, None}
 use Rattle.entry.specs.declared.Entry.{Entry}
-use Rattle.entry.specs.Lists.{at, below, above, from, upto, between, put, without, filled, first, final}
+use Rattle.entry.specs.Lists.{at, below, above, from, upto, between, put, without, filled}
 use Rattle.ordered.specs.declared.calls.Call.{Call}
 use Rattle.ordered.specs.declared.calls.Call.the-variants.{Add, Remove, Find, Next, Last, Range}
 use Rattle.ordered.specs.declared.refusal.Refusal.{Refusal}
 use Rattle.ordered.specs.declared.refusal.Refusal.the-variants.{TooLarge}
-use Rattle.ordered.specs.Sorted.{Listed, refused, large, misfit, no-add, no-find, no-near, no-range, tells, writes, keeps, unless, fitting, listed}
+use Rattle.ordered.specs.Sorted.{Listed, refused, large, no-add, no-find, keeps, unless, fitting, listed}
 use Rattle.ordered.specs.Kinds.{Kind, Kind-laws, Item, shown, own-below, own-above, own-from, own-upto, own-between, own-put, own-without, known, own-add, own-remove, own-find, own-next, own-last, own-range, own-listed}
-use Rattle.ordered.specs.Runs.{Asked, list-answers, list-after, own-answers, own-after, Agreeing, Lists-agree}
+use Rattle.ordered.specs.Runs.{Asked, list-answers, list-after, own-answers, own-after, Lists-agree}
 
 -- ---- filters
 map-kept : {A B : Type 0} (f : A → B) (p : A → Bool) (q : B → Bool) → ((x : A) → p x ≡ q (f x)) → (xs : List A) → map f (kept-by p xs) ≡ kept-by q (map f xs)

@@ -12,7 +12,7 @@
 --   own-listed      the sorted list: what it tells of a call with the caller's places as they stood, and its items after
 use Prim.Native.Nat.{ℕ, _^_, _<_, _≤_}
 use mathlib.Core.Path.{_≡_}
-use mathlib.Core.List.{List, [], _∷_, _++_, map}
+use mathlib.Core.List.{List, _∷_, _++_, map}
 use mathlib.Core.Bool.{Bool, true, cond, not}
 use lib.Dec.{ltb}
 use lib.ListN.{length}

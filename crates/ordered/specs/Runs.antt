@@ -10,7 +10,7 @@ use mathlib.Core.Path.{_≡_}
 use mathlib.Core.List.{List, [], _∷_, map}
 use Rattle.entry.specs.declared.Entry.{Entry}
 use Rattle.ordered.specs.declared.calls.Call.{Call}
-use Rattle.ordered.specs.Sorted.{Told, Listed, listed}
+use Rattle.ordered.specs.Sorted.{Told, listed}
 use Rattle.ordered.specs.Kinds.{Kind, Item, shown, own-listed}
 
 pub record Asked : Type 0 where

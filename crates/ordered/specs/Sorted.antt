@@ -10,8 +10,8 @@
 --   listed              the sorted list: what it tells of a call with the caller's places as they stood, and its entries after
 --   changed             1 for an accepted add or remove, otherwise 0
 use Prim.Native.Nat.{ℕ, _^_}
-use mathlib.Core.List.{List, [], _∷_, _++_}
-use mathlib.Core.Bool.{Bool, true, false, cond, _||_}
+use mathlib.Core.List.{List, _++_}
+use mathlib.Core.Bool.{cond, _||_}
 use lib.Dec.{leb, ltb}
 use lib.ListN.{length, drop}
 use Rattle.std.specs.declared.option.Option.{Option}
