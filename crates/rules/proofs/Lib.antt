@@ -1,0 +1,11 @@
+pub mod Ways
+pub mod Frames
+pub mod Potential
+pub mod Sizes
+pub mod Spreads
+pub mod Moves
+pub mod Calls
+pub mod Running
+pub mod Search
+pub mod Views
+pub mod OnTracks
