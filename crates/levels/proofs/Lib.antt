@@ -1,0 +1,2 @@
+pub mod Gets
+pub mod Steps

@@ -1,0 +1,9 @@
+pub mod Hooks
+pub mod Crowns
+pub mod Levels
+pub mod Mends
+pub mod Inserts
+pub mod Removals
+pub mod Builds
+pub mod Spares
+pub mod Worked

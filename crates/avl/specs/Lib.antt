@@ -1,0 +1,5 @@
+pub mod Turns
+pub mod Grows
+pub mod Cuts
+pub mod Builds
+pub mod Spares

@@ -1,0 +1,3 @@
+pub mod Obeying
+pub mod Summing
+pub mod Running

@@ -1,0 +1,4 @@
+pub mod Plans
+pub mod Stretches
+pub mod Checks
+pub mod Commands

@@ -1,0 +1,11 @@
+pub mod Nodes
+pub mod Orders
+pub mod Rows
+pub mod Present
+pub mod Pigeon
+pub mod Room
+pub mod Midway
+pub mod Turns
+pub mod Changes
+pub mod Stands
+pub mod Found

@@ -1,0 +1,4 @@
+pub mod Cuts
+pub mod Places
+pub mod Served
+pub mod Holders

@@ -1,0 +1,3 @@
+pub mod Weights
+pub mod Holders
+pub mod Codes
