@@ -5,26 +5,26 @@
 --   Halves, halves    the row around its middle
 --   built-none        no node
 --   map-kept          the entries of nodes that were not altered
+--   order-short       a row is no longer than the pool
+--   order-tree, order-parts, order-join, order-kept  rows of trees, their parts, two joined, and after changes elsewhere
 --   order-left, order-right, build-hook, built-join  the calls on both sides, and the node above them
 use mathlib.Core.Path.{_≡_, refl, sym, ap, subst, _∙_}
 use mathlib.Core.List.{List, [], _∷_, _++_, map}
 use mathlib.Core.Logic.{inl, inr}
-use Prim.Native.Nat.{ℕ, zero, suc, _+_, _*_, _/_, _^_, _<_, _≤_, max}
+use Prim.Native.Nat.{ℕ, _+_, _*_, _/_, _^_, _<_, _≤_}
 use native.Mathlib.Omega.{arith}
 use lib.Pow.{pow-mono, pow-add, pow-pos}
 use lib.ListN.{length, getD, length-append}
-use Rattle.std.specs.shelf.Lists.{All}
 use Rattle.std.proofs.shelf.Lists.{map-append, nil-from-length}
 use Rattle.std.proofs.shelf.Tests.{cases-lt}
-use Rattle.entry.specs.declared.Entry.{Entry}
 use Rattle.entry.specs.Lists.{Rising}
-use Rattle.entry.proofs.Orders.{Split, rising-split}
+use Rattle.entry.proofs.Orders.{rising-parts}
 use Rattle.trees.specs.declared.Node.{Node}
 use Rattle.trees.specs.Counts.{single, times}
-use Rattle.trees.specs.Trees.{Tree, leaf, tall, entries, places}
-use Rattle.trees.specs.Pools.{nodeAt, entry-in, entryAt, Standing, treeAt, entriesAt, placesAt, Kept}
-use Rattle.trees.proofs.Counts.{single-same, times-append, times-all, distinct-few, differ}
-use Rattle.trees.proofs.Pools.{tree-is, no-tree, kept-none, kept-then}
+use Rattle.trees.specs.Trees.{tall, entries, places}
+use Rattle.trees.specs.Pools.{entry-in, entryAt, Standing, treeAt, entriesAt, placesAt, Kept}
+use Rattle.trees.proofs.Counts.{single-same, times-append, times-all, distinct-few}
+use Rattle.trees.proofs.Pools.{inside, standing-none, end-is, kept-none, kept-then, entries-are}
 use Rattle.avl.specs.Turns.{hung, Loose, Level}
 use Rattle.avl.specs.Builds.{Lowest, Order, Built}
 use Rattle.avl.proofs.Hooks.{Hook}
@@ -95,17 +95,14 @@ halves ps fs back one rest a b e half =
     let long : length ps ≡ length fs + 1 + length rest = omega (arith, ap length is, length-append fs (getD one 0 0 ∷ rest)) in
     record { is = is; less = omega arith; more = omega arith; long = long }
 
-built-at : (ns ms : List Node) (ps : List ℕ) (root : ℕ) (u : Tree) → Built ns ms ps root u → Built ns ms ps root (treeAt ms root)
-built-at ns ms ps root u b = subst (Built ns ms ps root) (sym (tree-is ms root u (b .stands))) b
-
 pub built-none : (ns : List Node) (ps : List ℕ) → length ns ≤ 512 → length ps ≡ 0 → Built ns ns ps 65535 (treeAt ns 65535)
-built-none ns ps few e = rw (nil-from-length ps e) (built-at ns ns [] 65535 leaf (record {
-  stands = no-tree ns few;
-  holds = refl;
-  spots = λ m. refl;
-  lowest = lowest-none 0 refl;
+built-none ns ps few e = rw (nil-from-length ps e) (record {
+  stands = standing-none ns few;
+  holds = ap entries (end-is ns 65535 refl);
+  spots = λ m. ap (λ t. times m (places t)) (end-is ns 65535 refl);
+  lowest = rw (end-is ns 65535 refl) (lowest-none 0 refl);
   kept = kept-none ns [];
-}))
+})
 
 pub order-short : (ns : List Node) (ps : List ℕ) → Order ns ps → length ps ≤ 512
 order-short ns ps or = distinct-few 512 ps (times-all (λ x. x < 512) ps (λ m z. omega (arith, or .inside m z, or .few))) (or .apart)
@@ -114,6 +111,39 @@ pub map-kept : (ns ms : List Node) (qs : List ℕ) → Kept ns ms qs → (ps : L
 map-kept ns ms qs k [] out = refl
 map-kept ns ms qs k (p ∷ ps) out = λ d. entry-in (k .same p (out p (omega (arith, single-same p p refl))) d) ∷ map-kept ns ms qs k ps (λ j z. out j (omega arith)) d
 
+-- rows of a tree's nodes, their parts, two of them joined, and after changes elsewhere
+pub order-tree : (ns : List Node) (root : ℕ) → Standing ns root → Order ns (placesAt ns root)
+order-tree ns root s = record {
+  few = s .few;
+  inside = λ m z. inside ns (treeAt ns root) m (s .lies) z;
+  apart = s .apart;
+  rising = subst Rising (entries-are ns (treeAt ns root) (s .lies)) (s .rising);
+}
+
+pub order-parts : (ns : List Node) (xs ys : List ℕ) → Order ns (xs ++ ys) → Order ns xs × Order ns ys
+order-parts ns xs ys or =
+    let counts : (j : ℕ) → times j (xs ++ ys) ≡ times j xs + times j ys = λ j. times-append j xs ys in
+    let r = rising-parts (map (entryAt ns) xs) (map (entryAt ns) ys) (subst Rising (map-append (entryAt ns) xs ys) (or .rising)) in (
+      record { few = or .few; inside = λ j z. or .inside j (omega (arith, counts j)); apart = λ j. omega (arith, counts j, or .apart j); rising = r .0 },
+      record { few = or .few; inside = λ j z. or .inside j (omega (arith, counts j)); apart = λ j. omega (arith, counts j, or .apart j); rising = r .1 },
+    )
+
+pub order-join : (ns : List Node) (xs ys : List ℕ) → Order ns xs → Order ns ys → ((j : ℕ) → times j xs + times j ys ≤ 1) → Rising (map (entryAt ns) xs ++ map (entryAt ns) ys) → Order ns (xs ++ ys)
+order-join ns xs ys a b out rising = record {
+  few = a .few;
+  inside = λ j z. elim (cases-lt 0 (times j xs)) [ inl lt ↦ a .inside j lt | inr ge ↦ b .inside j (omega (arith, z, times-append j xs ys)) ];
+  apart = λ j. omega (arith, times-append j xs ys, out j);
+  rising = subst Rising (sym (map-append (entryAt ns) xs ys)) rising;
+}
+
+pub order-kept : (ns ms : List Node) (qs ps : List ℕ) → Kept ns ms qs → ((j : ℕ) → times j ps + times j qs ≤ 1) → Order ns ps → Order ms ps
+order-kept ns ms qs ps k out or = record {
+  few = omega (arith, k .long, or .few);
+  inside = λ j z. omega (arith, or .inside j z, k .long);
+  apart = or .apart;
+  rising = subst Rising (sym (map-kept ns ms qs k ps (λ j z. omega (arith, out j)))) (or .rising);
+}
+
 module _ (ns : List Node) (ps fs : List ℕ) (m : ℕ) (rs : List ℕ) (or : Order ns ps) (ha : Halves ps fs m rs) where
   counts : (j : ℕ) → times j ps ≡ times j fs + single j m + times j rs
   counts j = omega (arith, ap (times j) (ha .is), times-append j fs (m ∷ rs))
@@ -121,11 +151,11 @@ module _ (ns : List Node) (ps fs : List ℕ) (m : ℕ) (rs : List ℕ) (or : Ord
   map-is : map (entryAt ns) ps ≡ map (entryAt ns) fs ++ entryAt ns m ∷ map (entryAt ns) rs
   map-is = ap (map (entryAt ns)) (ha .is) ∙ map-append (entryAt ns) fs (m ∷ rs)
 
-  sorted : Split (map (entryAt ns) fs) (entryAt ns m) (map (entryAt ns) rs)
-  sorted = rising-split (map (entryAt ns) fs) (entryAt ns m) (map (entryAt ns) rs) (subst Rising map-is (or .rising))
+  parts : Order ns fs × Order ns (m ∷ rs)
+  parts = order-parts ns fs (m ∷ rs) (subst (Order ns) (ha .is) or)
 
   pub order-left : Order ns fs
-  order-left = record { few = or .few; inside = λ j z. or .inside j (omega (arith, counts j)); apart = λ j. omega (arith, counts j, or .apart j); rising = sorted .left }
+  order-left = parts .0
 
   module _ (ms : List Node) (left : ℕ) (bl : Built ns ms fs left (treeAt ms left)) where
     rest-same : map (entryAt ms) rs ≡ map (entryAt ns) rs
@@ -135,12 +165,7 @@ module _ (ns : List Node) (ps fs : List ℕ) (m : ℕ) (rs : List ℕ) (or : Ord
     middle-same = ap entry-in (bl .kept .same m (omega (arith, counts m, or .apart m, single-same m m refl)))
 
     pub order-right : Order ms rs
-    order-right = record {
-      few = omega (arith, bl .kept .long, or .few);
-      inside = λ j z. omega (arith, or .inside j (omega (arith, counts j)), bl .kept .long);
-      apart = λ j. omega (arith, counts j, or .apart j);
-      rising = subst Rising (sym rest-same) (sorted .right);
-    }
+    order-right = order-kept ns ms fs rs (bl .kept) (λ j. omega (arith, counts j, or .apart j)) (order-parts ns (m ∷ []) rs (parts .1) .1)
 
     module _ (xs : List Node) (right : ℕ) (br : Built ms xs rs right (treeAt xs right)) where
       within : m < length ms

@@ -1,16 +1,16 @@
 -- One turn for all four cases: the node m above x and y.
-use mathlib.Core.Path.{_≡_, refl, sym, ap, subst, _∙_}
-use mathlib.Core.List.{List, [], _∷_, _++_, append-assoc}
-use Prim.Native.Nat.{ℕ, _+_, _<_, _≤_, max}
+use mathlib.Core.Path.{_≡_, refl, subst, _∙_}
+use mathlib.Core.List.{List, _∷_}
+use Prim.Native.Nat.{ℕ, _<_, _≤_}
 use native.Mathlib.Omega.{arith}
 use lib.ListN.{length}
 use Rattle.trees.specs.declared.Node.{Node}
 use Rattle.trees.specs.Counts.{single, times}
-use Rattle.trees.specs.Trees.{Tree, node, top, tall, entries, places}
-use Rattle.trees.specs.Pools.{nodeAt, entry-in, entryAt, Lies, Standing, treeAt, placesAt, Kept}
+use Rattle.trees.specs.Trees.{Tree, node, places}
+use Rattle.trees.specs.Pools.{nodeAt, entry-in, entryAt, Lies, treeAt}
 use Rattle.trees.proofs.Counts.{single-same, differ, times-append}
 use Rattle.trees.proofs.Pools.{low}
-use Rattle.avl.specs.Turns.{hung, Four, crowned, Crowned}
+use Rattle.avl.specs.Turns.{hung, Four, Crowned}
 use Rattle.avl.proofs.Hooks.{Hook, hook, hung-long, hung-other, hung-keeps, hung-lies}
 
 module _ (ns : List Node) (x m y a b c d : ℕ) (f : Four ns x m y a b c d) where

@@ -5,17 +5,17 @@
 --   hung-lies    the tree under the node
 --   Hook, hook   what hang asks
 use mathlib.Core.Path.{_≡_, refl, sym, ap, subst, _∙_}
-use mathlib.Core.List.{List, [], _∷_, _++_}
+use mathlib.Core.List.{List}
 use Prim.Native.Nat.{ℕ, _+_, _<_, _≤_, max}
 use native.Mathlib.Omega.{arith}
 use lib.Dec.{eqb}
-use lib.ListN.{length, getD, set, length-set}
+use lib.ListN.{length, length-set}
 use lib.Seq.{getD-set-same, getD-set-other}
 use Rattle.std.proofs.shelf.Tests.{ne-eqb, cond-false}
 use Rattle.trees.specs.declared.Node.{Node}
 use Rattle.trees.specs.Counts.{times}
 use Rattle.trees.specs.Trees.{Tree, leaf, node, top, tall, places}
-use Rattle.trees.specs.Pools.{no-node, nodeAt, entryAt, high, Lies, Kept}
+use Rattle.trees.specs.Pools.{no-node, nodeAt, entryAt, high, Lies}
 use Rattle.trees.proofs.Pools.{lies-kept}
 use Rattle.avl.specs.Turns.{Ready, hung}
 

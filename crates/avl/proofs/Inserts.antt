@@ -7,20 +7,20 @@
 use mathlib.Core.Path.{_≡_, refl, sym, ap, subst, _∙_}
 use mathlib.Core.List.{List, [], _∷_, _++_}
 use mathlib.Core.Logic.{inl, inr, ⊎-elim}
-use Prim.Native.Nat.{ℕ, _+_, _<_, _≤_, max}
+use Prim.Native.Nat.{ℕ, _+_, _<_, _≤_}
 use native.Mathlib.Omega.{arith}
 use lib.ListN.{length, set, length-set}
 use lib.Seq.{getD-set-same, getD-set-other}
 use Rattle.std.proofs.shelf.Tests.{cases-lt, cases-order}
 use Rattle.entry.specs.declared.Entry.{Entry}
-use Rattle.entry.specs.Lists.{at, put, Rising, Over, Under}
+use Rattle.entry.specs.Lists.{put, Rising}
 use Rattle.entry.proofs.Filters.{put-left, put-right, put-past}
 use Rattle.entry.proofs.Orders.{over-less, under-more, rising-put}
 use Rattle.trees.specs.declared.Node.{Node}
 use Rattle.trees.specs.Counts.{single, times}
 use Rattle.trees.specs.Trees.{Tree, leaf, node, tall, entries, places, seen}
-use Rattle.trees.specs.Pools.{no-node, nodeAt, entryAt, Stands, Standing, treeAt, leftAt, rightAt, entriesAt, placesAt, Kept}
-use Rattle.trees.proofs.Counts.{single-same, differ, times-append, joins}
+use Rattle.trees.specs.Pools.{no-node, nodeAt, entryAt, treeAt, leftAt, rightAt, entriesAt, placesAt, Kept}
+use Rattle.trees.proofs.Counts.{differ, times-append, joins}
 use Rattle.trees.proofs.Pools.{Opened, end-is, tree-is, kept-then}
 use Rattle.trees.proofs.Looks.{entries-open, count-open, tall-open, at-here, at-low, at-high, path-low, path-high}
 use Rattle.avl.specs.declared.grow.Grown.{Grown}

@@ -7,16 +7,15 @@
 --   rooted       a tree with a height has a root
 --   bound        an index with a tree is in the pool
 use mathlib.Core.Path.{_≡_, refl, sym, ap, subst, _∙_}
-use mathlib.Core.List.{List, [], _∷_, _++_, append-assoc}
+use mathlib.Core.List.{List, _∷_, _++_, append-assoc}
 use Prim.Native.Nat.{ℕ, _+_, _<_, _≤_, max}
 use native.Mathlib.Omega.{arith}
 use lib.ListN.{length}
-use Rattle.entry.specs.declared.Entry.{Entry}
 use Rattle.entry.specs.Lists.{Rising}
 use Rattle.trees.specs.declared.Node.{Node}
 use Rattle.trees.specs.Counts.{single, times}
-use Rattle.trees.specs.Trees.{Tree, node, top, tall, entries, places}
-use Rattle.trees.specs.Pools.{nodeAt, entryAt, high, Lies, Stands, Standing, treeAt, leftAt, rightAt, entriesAt, placesAt, Kept}
+use Rattle.trees.specs.Trees.{Tree, node, tall, places}
+use Rattle.trees.specs.Pools.{nodeAt, entryAt, high, Standing, treeAt, leftAt, rightAt, entriesAt, placesAt}
 use Rattle.trees.proofs.Counts.{single-same, differ, times-append}
 use Rattle.trees.proofs.Pools.{Opened, opened, end-is, tree-is, low, high-is}
 use Rattle.trees.proofs.Looks.{entries-open, count-open, tall-open}

@@ -3,17 +3,16 @@
 --   other-same   the tree that was left alone
 --   mend-left, mend-right    the changed tree can stand to the left of the node, or to the right
 --   level-left, level-right  what level then gives, in the pool's words from before the change
-use mathlib.Core.Path.{_≡_, refl, sym, ap, subst, _∙_}
-use mathlib.Core.List.{List, [], _∷_, _++_}
+use mathlib.Core.Path.{_≡_, refl, ap}
+use mathlib.Core.List.{List, _∷_, _++_}
 use Prim.Native.Nat.{ℕ, _+_, _<_, _≤_}
 use native.Mathlib.Omega.{arith}
 use lib.ListN.{length}
-use Rattle.entry.specs.declared.Entry.{Entry}
 use Rattle.entry.specs.Lists.{Rising}
 use Rattle.trees.specs.declared.Node.{Node}
 use Rattle.trees.specs.Counts.{single, times}
-use Rattle.trees.specs.Trees.{Tree, entries, places}
-use Rattle.trees.specs.Pools.{nodeAt, entry-in, entryAt, Standing, treeAt, entriesAt, placesAt, Kept}
+use Rattle.trees.specs.Trees.{Tree, places}
+use Rattle.trees.specs.Pools.{entry-in, entryAt, Standing, treeAt, entriesAt, placesAt, Kept}
 use Rattle.trees.proofs.Counts.{single-same}
 use Rattle.trees.proofs.Pools.{same-tree, standing-kept}
 use Rattle.avl.specs.Turns.{Loose, Level}

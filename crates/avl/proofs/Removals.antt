@@ -5,8 +5,8 @@
 --   right-…            the right subtree lost a node, and the node x stands above both
 --   first-…, rootless-…, cut-…  the first node, the root, and the node of a key
 use mathlib.Core.Path.{_≡_, refl, sym, ap, subst, _∙_}
-use mathlib.Core.List.{List, [], _∷_, _++_}
-use mathlib.Core.Bool.{Bool, true, false}
+use mathlib.Core.List.{List, _∷_, _++_}
+use mathlib.Core.Bool.{true, false}
 use mathlib.Core.Logic.{inl, inr}
 use Prim.Native.Nat.{ℕ, _+_, _<_, _≤_, max}
 use native.Mathlib.Omega.{arith}
@@ -14,12 +14,12 @@ use lib.ListN.{length}
 use Rattle.std.proofs.shelf.Lists.{append-nil}
 use Rattle.std.proofs.shelf.Tests.{cases-lt, false≢true}
 use Rattle.entry.specs.declared.Entry.{Entry}
-use Rattle.entry.specs.Lists.{at, without, filled, Rising, Over, Under}
+use Rattle.entry.specs.Lists.{at, without, filled, Rising}
 use Rattle.entry.proofs.Filters.{without-left, without-right, without-past, without-key}
-use Rattle.entry.proofs.Orders.{over-less, under-more, rising-without, rising-split, rising-join}
+use Rattle.entry.proofs.Orders.{over-less, under-more, rising-without}
 use Rattle.trees.specs.declared.Node.{Node}
 use Rattle.trees.specs.Counts.{single, times}
-use Rattle.trees.specs.Trees.{Tree, leaf, tall, entries, places, seen}
+use Rattle.trees.specs.Trees.{Tree, leaf, tall, entries, places}
 use Rattle.trees.specs.Pools.{nodeAt, entryAt, Standing, treeAt, leftAt, rightAt, entriesAt, placesAt, Kept}
 use Rattle.trees.proofs.Counts.{single-same, times-append}
 use Rattle.trees.proofs.Pools.{Opened, inside, end-is, kept-none, kept-then}

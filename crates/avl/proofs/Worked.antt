@@ -1,16 +1,16 @@
 -- Insertions into a tree whose entries are known, one after another.
-use mathlib.Core.Path.{_≡_, refl, sym, ap, _∙_}
+use mathlib.Core.Path.{_≡_, refl, ap, _∙_}
 use mathlib.Core.List.{List, [], _∷_}
-use Prim.Native.Nat.{ℕ, _+_, _<_, _≤_}
+use Prim.Native.Nat.{ℕ, _<_}
 use native.Mathlib.Omega.{arith}
 use lib.ListN.{length}
 use Rattle.entry.specs.declared.Entry.{Entry}
 use Rattle.entry.specs.Lists.{at, put}
 use Rattle.trees.specs.declared.Node.{Node}
-use Rattle.trees.specs.Counts.{single, times}
-use Rattle.trees.specs.Trees.{entries, places, leaf}
+use Rattle.trees.specs.Counts.{times}
+use Rattle.trees.specs.Trees.{entries, places}
 use Rattle.trees.specs.Pools.{Standing, treeAt, entriesAt, placesAt}
-use Rattle.trees.proofs.Pools.{standing, no-tree, end-is}
+use Rattle.trees.proofs.Pools.{standing-none, end-is}
 use Rattle.avl.specs.declared.grow.Grown.{Grown}
 use Rattle.avl.specs.Grows.{Fresh, Grew}
 
@@ -23,7 +23,7 @@ pub record Known (ns : List Node) (root : ℕ) (es : List Entry) (ps : List ℕ)
 
 pub known-none : (ns : List Node) → length ns ≡ 3 → Known ns 65535 [] []
 known-none ns long = record {
-  stands = standing ns 65535 leaf (no-tree ns (omega arith));
+  stands = standing-none ns (omega arith);
   entries-are = ap entries (end-is ns 65535 refl);
   places-are = λ m. ap (λ t. times m (places t)) (end-is ns 65535 refl);
   long = long;

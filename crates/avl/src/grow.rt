@@ -4,7 +4,6 @@ use crate::turns::level;
 use entry::Entry;
 use trees::NONE;
 use trees::Node;
-ghost use mathlib.Core.Path.{_≡_};
 ghost use Rattle.trees.specs.Pools.{treeAt};
 ghost use Rattle.avl.specs.Grows.{Fresh, Grew};
 

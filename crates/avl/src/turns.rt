@@ -43,11 +43,13 @@ pub(crate) fn hang(nodes: &mut [Node], i: u16, left: u16, right: u16)
     };
 }
 
-// The node m above x and y, and the trees a, b, c and d below them.
-fn crown(nodes: &mut [Node], x: u16, m: u16, y: u16, a: u16, b: u16, c: u16, d: u16)
-    requires { ⌜ Four (now nodes) x m y a b c d ⌝ }
-    ensures { λ _. ⌜ Crowned (now (nodes .entry)) (now (nodes .exit)) x m y a b c d ⌝ }
+// Three nodes x, m and y, and four trees a, b, c and d: m above x and y, and these above the trees.
+fn crown(nodes: &mut [Node], spots: (u16, u16, u16), under: (u16, u16, u16, u16))
+    requires { ⌜ Four (now nodes) (spots .0) (spots .1) (spots .2) (under .0) (under .1) (under .2) (under .3) ⌝ }
+    ensures { λ _. ⌜ Crowned (now (nodes .entry)) (now (nodes .exit)) (spots .0) (spots .1) (spots .2) (under .0) (under .1) (under .2) (under .3) ⌝ }
 {
+    let (x, m, y) = spots;
+    let (a, b, c, d) = under;
     hang(nodes, x, a, b);
     hang(nodes, y, c, d);
     hang(nodes, m, x, y);
@@ -64,26 +66,16 @@ fn lean_left(nodes: &mut [Node], i: u16, left: u16, right: u16) -> u16
         let outer = nodes[high.right as usize];
         crown(
             nodes,
-            i,
-            right,
-            high.right,
-            left,
-            high.left,
-            outer.left,
-            outer.right,
+            (i, right, high.right),
+            (left, high.left, outer.left, outer.right),
         );
         right
     } else {
         let inner = nodes[high.left as usize];
         crown(
             nodes,
-            i,
-            high.left,
-            right,
-            left,
-            inner.left,
-            inner.right,
-            high.right,
+            (i, high.left, right),
+            (left, inner.left, inner.right, high.right),
         );
         high.left
     }
@@ -100,26 +92,16 @@ fn lean_right(nodes: &mut [Node], i: u16, left: u16, right: u16) -> u16
         let outer = nodes[high.left as usize];
         crown(
             nodes,
-            high.left,
-            left,
-            i,
-            outer.left,
-            outer.right,
-            high.right,
-            right,
+            (high.left, left, i),
+            (outer.left, outer.right, high.right, right),
         );
         left
     } else {
         let inner = nodes[high.right as usize];
         crown(
             nodes,
-            left,
-            high.right,
-            i,
-            high.left,
-            inner.left,
-            inner.right,
-            right,
+            (left, high.right, i),
+            (high.left, inner.left, inner.right, right),
         );
         high.right
     }

@@ -66,13 +66,21 @@ did b c r b′ p k =
           (p .entries ∙ size .kept e told, p .still none .1);
     }
 
+pub did-shut : (b : BookView) (c : Command) (r : Answer) (b′ : BookView) → Did b c r b′ → shut b′ ≡ shut b
+did-shut b c r b′ d = go (part-of c) (d .planned .shut) (d .kept)
+  where
+    go : (p : Part) → look p b′ .shut ≡ look p b .shut → Kept p b b′ → shut b′ ≡ shut b
+    go Names e k = rw (e, ap (λ (v : View). v .shut) (k .0), ap (λ (v : View). v .shut) (k .1)) refl
+    go Leases e k = rw (e, ap (λ (v : View). v .shut) (k .0), ap (λ (v : View). v .shut) (k .1)) refl
+    go Events e k = rw (e, ap (λ (v : View). v .shut) (k .0), ap (λ (v : View). v .shut) (k .1)) refl
+
 -- ---- on the way to a command
 pub refused-shut : (b : BookView) (c : Command) → Standing b → shut b ≡ true → Did b c (refusal Shut 0 0) b
 refused-shut b c s e =
     let P : Bool → Type 0 = λ t. Planned (look (part-of c) b) (cond t (turned-away Shut [] (look (part-of c) b)) (commanded (look (part-of c) b) c)) (refusal Shut 0 0) (look (part-of c) b) in
     did b c (refusal Shut 0 0) b (subst P (sym e) (refuse-early (look (part-of c) b) Shut (part-seven (part-of c) b s))) (kept-self (part-of c) b)
 
-book-plan-open : (b : BookView) (c : Command) → shut b ≡ false → book-plan b c ≡ commanded (look (part-of c) b) c
+pub book-plan-open : (b : BookView) (c : Command) → shut b ≡ false → book-plan b c ≡ commanded (look (part-of c) b) c
 book-plan-open b c e = ap (λ (t : Bool). cond t (turned-away Shut [] (look (part-of c) b)) (commanded (look (part-of c) b) c)) e
 
 pub refused-early : (b : BookView) (c : Command) (e : Refusal) → Standing b → shut b ≡ false → early c ≡ Some e → Did b c (refusal e 0 0) b

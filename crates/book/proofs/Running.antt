@@ -21,11 +21,11 @@ use Rattle.book.specs.Runs.{Turn, Runs, start, more, frames, changes, Frames, 
 use Rattle.book.proofs.Summing.{Adds, adds-none, adds-then, adds-frames, served-adds}
 
 -- ---- sums over one turn more
-frames-push : (ts : List Turn) (t : Turn) → frames (ts ++ (t ∷ [])) ≡ frames ts + t .answer .frames
+pub frames-push : (ts : List Turn) (t : Turn) → frames (ts ++ (t ∷ [])) ≡ frames ts + t .answer .frames
 frames-push [] t = omega arith
 frames-push (x ∷ ts) t = omega (arith, frames-push ts t)
 
-changes-push : (ts : List Turn) (t : Turn) → changes (ts ++ (t ∷ [])) ≡ changes ts + change (code-of (t .bytes)) (t .answer .outcome)
+pub changes-push : (ts : List Turn) (t : Turn) → changes (ts ++ (t ∷ [])) ≡ changes ts + change (code-of (t .bytes)) (t .answer .outcome)
 changes-push [] t = omega arith
 changes-push (x ∷ ts) t = omega (arith, changes-push ts t)
 

@@ -1,9 +1,10 @@
 -- The frames of commands, summed.
 --
---   frames-none     nothing done
---   frames-then     one run after another
---   did-frames      a command that is obeyed
---   served-frames   any bytes
+--   Adds            what some commands add to the tallies
+--   adds-none, adds-then   nothing done; one run after another
+--   adds-frames, frames-adds   the law from it, and back
+--   did-adds        a command that is obeyed
+--   served-adds     any bytes
 use Prim.Native.Nat.{ℕ, _+_, _*_, _^_, _≤_, _<_}
 use mathlib.Core.Path.{_≡_, refl, sym, ap, _∙_}
 use mathlib.Core.Logic.{inl, inr}
@@ -55,6 +56,7 @@ adds-frames {b} {b′} {f} {n} {c} a =
     record {
       exact = a .exact;
       few = a .few;
+      each = a .changes;
       new = λ fresh small.
           let few : f ≤ 14 * n + 9 * c = omega (arith, a .few, fresh .names .credit, fresh .leases .credit, fresh .events .credit) in
           let low : tallies b ≤ 366 = omega (arith, fresh .names .tally, fresh .leases .tally, fresh .events .tally) in
@@ -62,6 +64,9 @@ adds-frames {b} {b′} {f} {n} {c} a =
           let is = a .exact sum in
           record { exact = is; few = few; below = (omega (arith, is, few, low, small, a .changes), omega (arith, is, few, low, small, a .changes), omega (arith, is, few, low, small, a .changes)) };
     }
+
+pub frames-adds : {b b′ : BookView} {f n c : ℕ} → Frames b f n c b′ → Adds b f n c b′
+frames-adds a = record { exact = a .exact; few = a .few; changes = a .each }
 
 -- ---- one command
 change-one : (code : ℕ) (o : Result Entry Refusal) → change code o ≤ 1
@@ -94,7 +99,7 @@ did-adds b c r b′ d =
     let n : book-plan b c .changes ≡ change (fields c .code) (r .outcome) = size .changes ∙ ap (change (fields c .code)) (sym (d .planned .outcome)) in
     adds-by (part-of c) b b′ (book-plan b c) r (change (fields c .code) (r .outcome)) (d .planned) (d .kept) (size .few) n (change-one (fields c .code) (r .outcome))
 
-adds-away : (b b′ : BookView) (code : ℕ) (r : Answer) (e : Refusal) → r ≡ refusal e 0 0 → b′ ≡ b → Adds b (r .frames) 1 (change code (r .outcome)) b′
+pub adds-away : (b b′ : BookView) (code : ℕ) (r : Answer) (e : Refusal) → r ≡ refusal e 0 0 → b′ ≡ b → Adds b (r .frames) 1 (change code (r .outcome)) b′
 adds-away b b′ code r e i k =
     let f : r .frames ≡ 0 = ap (λ (a : Answer). a .frames) i in
     let n : change code (r .outcome) ≡ 0 = ap (λ (a : Answer). change code (a .outcome)) i ∙ no-change code e in

@@ -72,6 +72,7 @@ most-tried = 769 * 2 ^ 48
 pub record Frames (b : BookView) (frames tried changes : ℕ) (b′ : BookView) : Type 0 where
   pub exact : tallies b + frames < 2 ^ 64 → tallies b′ ≡ tallies b + frames
   pub few : frames + credits b′ ≤ 14 * tried + credits b + 9 * changes
+  pub each : changes ≤ tried
   pub new : New b → tried ≤ most-tried → From-new b frames tried changes b′
 
 -- ---- a script and its answers

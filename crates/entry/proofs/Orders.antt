@@ -2,20 +2,22 @@
 --
 --   over-less, under-more   a lower bound for Over, a higher one for Under
 --   below-under, above-over what the filters leave lies on its side of the key
+--   all-parts, rising-parts the parts of a joined list
 --   Split                   two lists around an entry: all lower, all higher, both rising
+--   rising-append           two rising lists that a key parts
 --   rising-split, rising-join a rising list is such a split, and the other way round
 --   rising-kept, rising-put, rising-without  what is done to a rising list leaves it rising
 --   at-most-one             a rising list has one entry at a key at most
-use mathlib.Core.Path.{_≡_, refl, sym, ap, _∙_}
+use mathlib.Core.Path.{_≡_, ap}
 use mathlib.Core.List.{List, [], _∷_, _++_}
-use mathlib.Core.Bool.{Bool, true, false, cond}
+use mathlib.Core.Bool.{Bool, true}
 use Prim.Native.Nat.{ℕ, _+_, _<_, _≤_}
 use native.Mathlib.Omega.{arith}
-use lib.Dec.{leb, ltb, eqb}
+use lib.Dec.{ltb, eqb}
 use lib.ListN.{length}
 use Rattle.std.specs.shelf.Lists.{kept-by, All}
 use Rattle.std.proofs.shelf.Elements.{all-append, all-weaker, all-kept-by, kept-by-passes}
-use Rattle.std.proofs.shelf.Tests.{ltb-true, cond-both, eqb-true, cond-true, cond-false, eqb-false}
+use Rattle.std.proofs.shelf.Tests.{ltb-true, cond-both, eqb-true}
 use Rattle.entry.specs.declared.Entry.{Entry}
 use Rattle.entry.specs.Lists.{below, at, above, put, without, Over, Under, Rising}
 use Rattle.entry.proofs.Filters.{over-at}
@@ -35,6 +37,12 @@ above-over k xs = all-weaker (λ (e : Entry). ltb k (e .key) ≡ true) (λ (e : 
 pub all-parts : {X : Type 0} (P : X → Type 0) (xs ys : List X) → All P (xs ++ ys) → All P xs × All P ys
 all-parts P [] ys h = (tt, h)
 all-parts P (x ∷ xs) ys h = let p = all-parts P xs ys (h .1) in ((h .0, p .0), p .1)
+
+pub rising-parts : (xs ys : List Entry) → Rising (xs ++ ys) → Rising xs × Rising ys
+rising-parts [] ys h = (tt, h)
+rising-parts (x ∷ xs) ys h =
+    let p = rising-parts xs ys (h .1) in
+    ((all-parts (λ (z : Entry). x .key < z .key) xs ys (h .0) .0, p .0), p .1)
 
 pub record Split (xs : List Entry) (e : Entry) (ys : List Entry) : Type 0 where
   pub under : Under (e .key) xs

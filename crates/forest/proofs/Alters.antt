@@ -3,6 +3,7 @@
 --   Far, far-or          a number is none of some, or is one of them
 --   stand, sized         a bucket's tree stands, and its size is right
 --   lone, two-lone       an index is in one tree at most
+--   used-long            as many indices are in use as there are entries
 --   Written              another table with the same buckets, other roots and other sizes
 --   unwritten, root-set, size-set  the table as it is; with a root written; with a size written
 --   Altered              trees of some numbers were altered, and these indices written to; no other tree has one of them
@@ -15,7 +16,7 @@ use mathlib.Core.List.{List, [], _∷_}
 use mathlib.Core.Logic.{_⊎_, inl, inr}
 use native.Mathlib.Omega.{arith}
 use lib.Dec.{ltb}
-use lib.ListN.{length}
+use lib.ListN.{length, length-append}
 use Rattle.std.specs.shelf.Lists.{All, joined}
 use Rattle.std.proofs.shelf.Tests.{cases-eq}
 use Rattle.std.proofs.shelf.Ways.{tells}
@@ -29,7 +30,7 @@ use Rattle.buckets.proofs.Lays.{all-apart}
 use Rattle.trees.specs.Counts.{times}
 use Rattle.trees.specs.Trees.{entries, places}
 use Rattle.trees.specs.Pools.{treeAt, Standing, Kept}
-use Rattle.trees.proofs.Pools.{same-tree, standing-kept}
+use Rattle.trees.proofs.Pools.{places-long, same-tree, standing-kept}
 use Rattle.avl.specs.declared.pool.Pool.{Pool}
 use Rattle.avl.specs.Spares.{free, Shared}
 use Rattle.forest.specs.Forests.{tree-of, items-of, places-of, used, Forest, Kept-but}
@@ -56,11 +57,19 @@ module _ (t : Table) (p : Pool) (f : Forest t p) where
   pub sized : (n : ℕ) → among n (order-of t) ≡ true → size-of t n ≡ length (items-of t p n)
   sized n i = all-among (λ z. size-of t z ≡ length (items-of t p z)) (order-of t) n (f .sizes) i
 
-  pub lone : (m : ℕ) → times m (used t p) ≤ 1
+  lone : (m : ℕ) → times m (used t p) ≤ 1
   lone m = omega (arith, f .shared m, at-most m)
 
   pub two-lone : (n k m : ℕ) → among n (order-of t) ≡ true → among k (order-of t) ≡ true → (n ≡ k → ⊥) → times m (places-of t p n) + times m (places-of t p k) ≤ 1
   two-lone n k m i j ne = omega (arith, lone m, two-parts (places-of t p) m (order-of t) n k i j ne)
+
+pub used-long : (t : Table) (p : Pool) → length (used t p) ≡ length (joined (items-of t p) (order-of t))
+used-long t p = over (order-of t)
+  where
+    over : (order : List ℕ) → length (joined (places-of t p) order) ≡ length (joined (items-of t p) order)
+    over [] = refl
+    over (n ∷ ns) =
+        omega (arith, over ns, places-long (tree-of t p n), length-append (places-of t p n) (joined (places-of t p) ns), length-append (items-of t p n) (joined (items-of t p) ns))
 
 pub record Written (t u : Table) (roots sizes : ℕ → ℕ) : Type 0 where
   pub stands : Table-stands u

@@ -4,7 +4,7 @@
 --   middle-inside, middle-is  the node in the middle, and its key
 --   halve-low, halve-high  the halves can be built
 --   halved         the forest after they were
-use Prim.Native.Nat.{ℕ, zero, suc, _+_, _-_, _/_, _<_, _≤_}
+use Prim.Native.Nat.{ℕ, zero, suc, _+_, _/_, _<_, _≤_}
 use mathlib.Core.Path.{_≡_, refl, sym, ap, subst, _∙_}
 use mathlib.Core.Bool.{true}
 use mathlib.Core.List.{List, [], _∷_, _++_, map}
@@ -27,11 +27,11 @@ use Rattle.trees.proofs.Pools.{entries-are, places-long, same-tree, standing-ke
 use Rattle.avl.specs.declared.pool.Pool.{Pool}
 use Rattle.avl.specs.Spares.{free}
 use Rattle.avl.specs.Builds.{Order, Built}
-use Rattle.avl.proofs.Builds.{map-kept}
+use Rattle.avl.proofs.Builds.{map-kept, order-tree, order-parts, order-kept}
 use Rattle.forest.specs.Forests.{items-of, places-of, Forest, Halved}
 use Rattle.forest.proofs.Alters.{stand, Written}
 use Rattle.forest.proofs.Walks.{Walked}
-use Rattle.forest.proofs.Rebuilds.{tree-order, order-parts, order-kept, Both, both}
+use Rattle.forest.proofs.Rebuilds.{Both, both}
 
 pub record Parted (t : Table) (p : Pool) (n h : ℕ) (lower upper : List ℕ) : Type 0 where
   pub low : lower ≡ take h (places-of t p n)
@@ -68,7 +68,7 @@ module _ (t : Table) (p : Pool) (n count h : ℕ) (row : List ℕ) (f : Forest t
 
     pub middle-inside : getD row h 0 < 512
     middle-inside =
-        let o = tree-order (p .nodes) (root-of t n) (stand t p f n i) in
+        let o = order-tree (p .nodes) (root-of t n) (stand t p f n i) in
         rw middle-at (all-getD (λ x. x < 512) (places-of t p n) h 0 short (times-all (λ x. x < 512) (places-of t p n) (λ m z. omega (arith, o .inside m z, o .few))))
 
     pub middle-is : nodeAt (p .nodes) (getD row h 0) .key ≡ first (drop (length (items-of t p n) / 2) (items-of t p n)) .key
@@ -87,14 +87,14 @@ module _ (t : Table) (p : Pool) (n k h : ℕ) (ls us : List ℕ) (f : Forest t p
   whole = (λ d. c .low d ++ c .high d) ∙ take-append-drop h (places-of t p n)
 
   order : Order (p .nodes) (ls ++ us)
-  order = subst (Order (p .nodes)) (sym whole) (tree-order (p .nodes) (root-of t n) (stand t p f n i))
+  order = subst (Order (p .nodes)) (sym whole) (order-tree (p .nodes) (root-of t n) (stand t p f n i))
 
   pub halve-low : Order (p .nodes) ls
   halve-low = order-parts (p .nodes) ls us order .0
 
   module _ (ms : List Node) (a : ℕ) (ba : Built (p .nodes) ms ls a (treeAt ms a)) where
     pub halve-high : Order ms us
-    halve-high = order-kept (p .nodes) ls us ms (ba .kept) order
+    halve-high = order-kept (p .nodes) ms ls us (ba .kept) (λ m. omega (arith, times-append m ls us, order .apart m)) (order-parts (p .nodes) ls us order .1)
 
     module _ (u : Table) (q : Pool) (b x y : ℕ) (bb : Built ms (q .nodes) us b (treeAt (q .nodes) b)) (j : among k (order-of t) ≡ true) (ne : n ≡ k → ⊥) (empty : items-of t p k ≡ [])
         (w : Written t u (with-at (with-at (root-of t) n a) k b) (with-at (with-at (size-of t) n x) k y)) (lx : x ≡ length ls) (ly : y ≡ length us) (same : free q ≡ free p) where
@@ -118,7 +118,7 @@ module _ (t : Table) (p : Pool) (n k h : ℕ) (ls us : List ℕ) (f : Forest t p
       none : places-of t p k ≡ []
       none = nil-from-length (places-of t p k) (places-long (treeAt (p .nodes) (root-of t k)) ∙ ap length empty)
 
-      pub halves : Both t p u q n k (take h (items-of t p n)) (drop h (items-of t p n))
+      halves : Both t p u q n k (take h (items-of t p n)) (drop h (items-of t p n))
       halves = both t p u q n k a b x y (ls ++ us) f i j ne w
           (kept-then (p .nodes) ms (q .nodes) ls us (ls ++ us) (ba .kept) (bb .kept) (λ m z. (omega (arith, count m), omega (arith, count m))))
           (λ m. omega (arith, ap (times m) whole, ap (times m) none))

@@ -3,9 +3,8 @@
 --   moved-count, replanted  how often an index is in use, and the forest, after one bucket's tree was altered
 --   grow-ready     a free node can go into a bucket's tree
 --   grown          the forest after it did
---   less, left     the indices in use when one tree has others; when it has lost an entry
 --   shrink-ready, give-ready  an entry can leave a bucket's tree; its node is in no tree then
---   one-more       it had one entry more
+--   one-more, left it had one entry more; the indices in use then
 --   shrunk         the forest after it did
 use Prim.Native.Nat.{ℕ, _+_, _-_, _≤_}
 use mathlib.Core.Path.{_≡_, refl, sym, ap, subst, _∙_}
@@ -63,10 +62,10 @@ module _ (t : Table) (p : Pool) (u : Table) (q : Pool) (n root size : ℕ) (ps :
   size-is : size-of u n ≡ length (items-of u q n)
   size-is = ap (λ g. g n) (w .size) ∙ with-same (size-of t) n size n refl ∙ long ∙ ap length (sym items-are)
 
-  pub moved-count : (m : ℕ) → times m (used u q) + times m (places-of t p n) ≡ times m (used t p) + times m (places (treeAt (q .nodes) root))
+  moved-count : (m : ℕ) → times m (used u q) + times m (places-of t p n) ≡ times m (used t p) + times m (places (treeAt (q .nodes) root))
   moved-count m = omega (arith, one-moved t p u q (n ∷ []) ps f altered n refl i m, ap (λ z. times m (places (treeAt (q .nodes) z))) root-is)
 
-  pub replanted : Shared (used u q) (free q) → Replanted t p u q n es
+  replanted : Shared (used u q) (free q) → Replanted t p u q n es
   replanted sh = record {
     forest = planted t p u q (n ∷ []) ps f altered (subst (Standing (q .nodes)) (sym root-is) s, tt) (size-is, tt) sh;
     kept = kept-but t p u q (n ∷ []) ps f altered;
@@ -98,10 +97,6 @@ module _ (t : Table) (p o : Pool) (n fresh root : ℕ) (e : Entry) (f : Forest t
         replanted t p u q n (r .root) size (fresh ∷ places-of t p n) f i w (grew .kept) out (grew .stands) (put e (items-of t p n)) (grew .holds) long
         (λ m. omega (arith, count m, grew .spots m, l .shared m, ap (times m) kept))
 
--- the indices in use when the bucket's tree has these
-abbrev pub less : Table → Pool → ℕ → List ℕ → List ℕ
-less t p n ps = joined (λ x. cond (eqb x n) ps (places-of t p x)) (order-of t)
-
 module _ (t : Table) (p : Pool) (n root key : ℕ) (f : Forest t p) (i : among n (order-of t) ≡ true)
     (held : filled (at key (items-of t p n)) ≡ true) (is : root ≡ root-of t n) where
   pub shrink-ready : Held (p .nodes) root key
@@ -115,7 +110,7 @@ module _ (t : Table) (p : Pool) (n root key : ℕ) (f : Forest t p) (i : among n
     one-more = omega (arith, sized t p f n i, without-long key (items-of t p n), ap length (shrank .held))
 
     pub left : List ℕ
-    left = less t p n (places (treeAt ms (r .root)))
+    left = joined (λ x. cond (eqb x n) (places (treeAt ms (r .root))) (places-of t p x)) (order-of t)
 
     left-count : (m : ℕ) → times m left + times m (places-of t p n) ≡ times m (used t p) + times m (places (treeAt ms (r .root)))
     unfolding left

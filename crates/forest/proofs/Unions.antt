@@ -19,19 +19,23 @@ use Rattle.trees.specs.Counts.{times}
 use Rattle.trees.specs.Trees.{leaf, entries, places}
 use Rattle.trees.specs.Pools.{entryAt, treeAt, entriesAt, placesAt}
 use Rattle.trees.proofs.Counts.{times-append}
-use Rattle.trees.proofs.Pools.{entries-are, no-tree, standing, end-is}
+use Rattle.trees.proofs.Pools.{entries-are, standing-none, end-is}
 use Rattle.avl.specs.declared.pool.Pool.{Pool}
 use Rattle.avl.specs.Spares.{free}
 use Rattle.avl.specs.Builds.{Order, Built}
-use Rattle.avl.proofs.Builds.{order-short}
-use Rattle.forest.specs.Forests.{items-of, places-of, Forest, United}
+use Rattle.avl.proofs.Builds.{order-short, order-tree, order-join}
+use Rattle.forest.specs.Forests.{tree-of, items-of, places-of, Forest, United}
 use Rattle.forest.proofs.Alters.{stand, two-lone, Written}
 use Rattle.forest.proofs.Walks.{Walked}
-use Rattle.forest.proofs.Rebuilds.{order-join, Both, both}
+use Rattle.forest.proofs.Rebuilds.{Both, both}
 
 module _ (t : Table) (p : Pool) (n k : ℕ) (f : Forest t p) (i : among n (order-of t) ≡ true) (j : among k (order-of t) ≡ true) (ne : n ≡ k → ⊥) (rises : Rising (items-of t p n ++ items-of t p k)) where
+  both-entries : items-of t p n ++ items-of t p k ≡ map (entryAt (p .nodes)) (places-of t p n) ++ map (entryAt (p .nodes)) (places-of t p k)
+  both-entries d = entries-are (p .nodes) (tree-of t p n) (stand t p f n i .lies) d ++ entries-are (p .nodes) (tree-of t p k) (stand t p f k j .lies) d
+
   both-order : Order (p .nodes) (places-of t p n ++ places-of t p k)
-  both-order = order-join (p .nodes) (root-of t n) (root-of t k) (stand t p f n i) (stand t p f k j) (λ m. two-lone t p f n k m i j ne) rises
+  both-order = order-join (p .nodes) (places-of t p n) (places-of t p k) (order-tree (p .nodes) (root-of t n) (stand t p f n i)) (order-tree (p .nodes) (root-of t k) (stand t p f k j))
+      (λ m. two-lone t p f n k m i j ne) (subst Rising both-entries rises)
 
   few : length (places-of t p n) + length (places-of t p k) ≤ 512
   few = omega (arith, length-append (places-of t p n) (places-of t p k), order-short (p .nodes) (places-of t p n ++ places-of t p k) both-order)
@@ -51,10 +55,10 @@ module _ (t : Table) (p : Pool) (n k : ℕ) (f : Forest t p) (i : among n (order
     united u q root x y bu v long none same =
         let es : entriesAt (q .nodes) root ≡ items-of t p n ++ items-of t p k =
         bu .holds ∙ ap (map (entryAt (p .nodes))) is ∙ map-append (entryAt (p .nodes)) (places-of t p n) (places-of t p k)
-        ∙ (λ h. sym (entries-are (p .nodes) (treeAt (p .nodes) (root-of t n)) (stand t p f n i .lies)) h ++ sym (entries-are (p .nodes) (treeAt (p .nodes) (root-of t k)) (stand t p f k j .lies)) h) in
+        ∙ sym both-entries in
         let leafless : treeAt (q .nodes) 65535 ≡ leaf = end-is (q .nodes) 65535 refl in
         let r : Both t p u q n k (items-of t p n ++ items-of t p k) [] =
         both t p u q n k root 65535 x y all f i j ne v (bu .kept) (λ m. ap (times m) is ∙ times-append m (places-of t p n) (places-of t p k))
-        (λ m. omega (arith, bu .spots m, ap (λ z. times m (places z)) leafless)) (bu .stands) (standing (q .nodes) 65535 leaf (no-tree (q .nodes) (bu .stands .few)))
+        (λ m. omega (arith, bu .spots m, ap (λ z. times m (places z)) leafless)) (bu .stands) (standing-none (q .nodes) (bu .stands .few))
         (items-of t p n ++ items-of t p k) [] es (ap entries leafless) (long ∙ w .counted ∙ ap length (sym is) ∙ sym (length-map all (entryAt (p .nodes))) ∙ ap length (sym (bu .holds) ∙ es)) none same in
         record { forest = r .forest; kept = r .kept; all = r .one; none = r .other }

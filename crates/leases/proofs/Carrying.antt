@@ -50,7 +50,7 @@ pub fit : (f t : ℕ) → unfit f t ≡ None → Fit f t
 unfolding unfit
 fit f t e = record { low = grind (arith, tests, e); high = grind (arith, tests, e); rises = grind (arith, tests, e); level = grind (arith, tests, e) }
 
-noted : (f t h : ℕ) → Fit f t → (0 < h) × (h < 2 ^ 32) → Noted (entered f t h)
+pub noted : (f t h : ℕ) → Fit f t → (0 < h) × (h < 2 ^ 32) → Noted (entered f t h)
 noted f t h ok b = record { small = ok .low; rises = omega (arith, ok .level, ok .rises, b .1); inside = omega (arith, b .1); held = omega (arith, b .0, b .1) }
 
 pub end-is : (f t h : ℕ) → Fit f t → h < 2 ^ 32 → end (entered f t h) ≡ t

@@ -17,7 +17,7 @@ pub fn entered(first: u64, second: u64, holder: Holder) -> Entry
 
 // The last station of a lease.
 pub fn finish(lease: Entry) -> u64
-    requires { ⌜ lease .key < 2 ^ 32 ⌝ }
+    requires { ⌜ lease .key < 2 ^ 60 ⌝ }
     ensures { λ r. ⌜ r ≡ end lease ⌝ }
 {
     lease.key / 0x100_0000 * 0x100_0000 + lease.note / 0x1_0000_0000

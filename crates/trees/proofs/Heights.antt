@@ -3,11 +3,12 @@
 --   fewest-le                  more height needs more entries
 --   fewest-holds               a balanced tree has at least the fewest of its height
 --   table-is                   the table holds them: its recurrence is computed once
+--   count-passes, count-fails  the count of allowed heights, one height on
 --   highest-allows, highest-largest  what H means
 --   highest-tree               a balanced tree is no higher than H of its entries
-use mathlib.Core.Path.{_≡_, refl, sym, ap, subst, _∙_}
+use mathlib.Core.Path.{_≡_, refl, ap, subst}
 use mathlib.Core.List.{List, [], _∷_}
-use mathlib.Core.Bool.{Bool, true, false, cond, _&&_}
+use mathlib.Core.Bool.{true, cond}
 use mathlib.Core.Logic.{inl, inr, ⊎-elim}
 use Prim.Native.Nat.{ℕ, zero, suc, _+_, _-_, _<_, _≤_, max}
 use native.Mathlib.Omega.{arith}
@@ -18,7 +19,7 @@ use Rattle.std.specs.shelf.Lists.{kept-by}
 use Rattle.std.proofs.shelf.Elements.{all-from-getD}
 use Rattle.std.proofs.shelf.Filters.{length-kept-by-more}
 use Rattle.std.proofs.shelf.Tests.{cases-order, cases-lt, eqb-true, and-parts, le-leb, lt-leb, cond-true, cond-false}
-use Rattle.entry.proofs.Filters.{kept-none, kept-short}
+use Rattle.entry.proofs.Filters.{kept-none}
 use Rattle.trees.specs.Trees.{Tree, leaf, node, tall, entries, Balanced}
 use Rattle.trees.specs.Heights.{fewest, table, recurs, highest}
 
@@ -108,10 +109,6 @@ table-cut s = rows-cut s 0 table (λ k lt.
     let e : suc k - 1 ≡ k = omega arith in
     let f : suc (0 + k) ≡ suc k = omega arith in
     rw f (rw e at (table-is (suc k) (omega arith) (omega arith)))) (omega arith)
-
-highest-ten : (s : ℕ) → highest s ≤ 10
-unfolding highest
-highest-ten s = kept-short (λ n. leb n s) table
 
 -- how many of the first i heights s entries allow, one height on
 module _ (s i : ℕ) (lt : i < 10) where

@@ -11,7 +11,7 @@
 --   visits-highest      no path is longer than H of the entries
 use mathlib.Core.Path.{_≡_, refl, sym, ap, _∙_}
 use mathlib.Core.List.{List, [], _∷_, _++_}
-use mathlib.Core.Bool.{Bool, true, false, cond}
+use mathlib.Core.Bool.{true}
 use Prim.Native.Nat.{ℕ, _+_, _<_, _≤_, max}
 use native.Mathlib.Omega.{arith}
 use lib.Dec.{leb}
@@ -27,7 +27,7 @@ use Rattle.entry.proofs.Orders.{over-less, under-more}
 use Rattle.trees.specs.declared.Found.{Found}
 use Rattle.trees.specs.declared.Node.{Node}
 use Rattle.trees.specs.Counts.{single, times}
-use Rattle.trees.specs.Trees.{Tree, leaf, node, tall, entries, places, seen, low-way, high-way}
+use Rattle.trees.specs.Trees.{Tree, tall, entries, places, seen, low-way, high-way}
 use Rattle.trees.specs.Pools.{nodeAt, entryAt, leftAt, rightAt, treeAt, entriesAt, placesAt, Standing}
 use Rattle.trees.specs.Answers.{foremost, hindmost, Saw}
 use Rattle.trees.specs.Heights.{highest}

@@ -2,12 +2,12 @@
 --
 --   seen-here, seen-left, seen-right  the path at a place
 --   seen-low, low-way-low, high-way-low  no path is longer than the height
-use mathlib.Core.Path.{_≡_, refl, sym, ap, _∙_}
+use mathlib.Core.Path.{_≡_}
 use mathlib.Core.Bool.{cond}
 use Prim.Native.Nat.{ℕ, _+_, _<_, _≤_, max}
 use native.Mathlib.Omega.{arith}
 use lib.Dec.{eqb, ltb}
-use Rattle.std.proofs.shelf.Tests.{eq-eqb, ne-eqb, lt-ltb, le-ltb, cond-true, cond-false, cond-both}
+use Rattle.std.proofs.shelf.Tests.{eq-eqb, ne-eqb, lt-ltb, le-ltb, cond-both}
 use Rattle.entry.specs.declared.Entry.{Entry}
 use Rattle.trees.specs.Trees.{Tree, leaf, node, tall, seen, low-way, high-way}
 

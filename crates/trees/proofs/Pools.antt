@@ -1,31 +1,30 @@
 -- Standing trees: read off the pool, taken apart at the root, and left alone by writes elsewhere.
 --
---   inside, low, size   the places of a tree are in the pool; its height and size
+--   inside, low, size   the places of a tree are in the pool; its height and size are small
 --   places-long         a tree has as many places as entries
 --   tree-is, standing   a tree that stands is the one read off the pool
---   end-is              under NONE there is no tree
+--   standing-none, end-is  under NONE there is no tree
 --   high-is             the stored height is the tree's
 --   Opened, opened      a tree under an index, taken apart at its root
 --   falls-left, falls-right  the stored height falls on the way down
 --   lies-kept, stands-kept, same-tree, standing-kept  a tree outside of what was altered still stands
+--   kept-none, kept-then  no change; two changes, one after the other
 --   entries-are         the entries are those of the nodes
 use mathlib.Core.Path.{_≡_, refl, sym, ap, subst, _∙_}
-use mathlib.Core.List.{List, [], _∷_, _++_, map}
-use mathlib.Core.Bool.{Bool, true, false, cond}
+use mathlib.Core.List.{List, _∷_, _++_, map}
 use mathlib.Core.Logic.{_⊎_, inl, inr, ⊎-elim}
-use Prim.Native.Nat.{ℕ, zero, suc, _+_, _<_, _≤_, max}
+use Prim.Native.Nat.{ℕ, zero, suc, _+_, _<_, _≤_}
 use native.Mathlib.Omega.{arith}
 use lib.Dec.{eqb}
-use lib.ListN.{length, getD, length-append}
+use lib.ListN.{length, length-append}
 use Rattle.std.proofs.shelf.Lists.{map-append}
 use Rattle.std.proofs.shelf.Tests.{eq-eqb, ne-eqb, cond-true, cond-false, cases-lt, cases-eq}
 use Rattle.entry.specs.declared.Entry.{Entry}
-use Rattle.entry.specs.Lists.{Rising}
 use Rattle.entry.proofs.Orders.{Split, rising-split}
 use Rattle.trees.specs.declared.Node.{Node}
 use Rattle.trees.specs.Counts.{single, times}
 use Rattle.trees.specs.Trees.{Tree, leaf, node, top, tall, entries, places, Balanced}
-use Rattle.trees.specs.Pools.{no-node, nodeAt, entryAt, high, Lies, Stands, treeFor, treeAt, leftAt, rightAt, entriesAt, placesAt, Standing, Kept}
+use Rattle.trees.specs.Pools.{nodeAt, entryAt, high, Lies, Stands, treeFor, treeAt, leftAt, rightAt, entriesAt, placesAt, Standing, Kept}
 use Rattle.trees.proofs.Counts.{single-same, single-other, times-append, times-all, distinct-few}
 use Rattle.trees.proofs.Heights.{fewest-le, fewest-holds}
 
@@ -74,8 +73,11 @@ tree-is ns root t s = ap (treeFor 12 ns) (sym (s .root-is)) ∙ tree-for 12 ns t
 pub standing : (ns : List Node) (root : ℕ) (t : Tree) → Stands ns root t → Standing ns root
 standing ns root t s = subst (Stands ns root) (sym (tree-is ns root t s)) s
 
-pub no-tree : (ns : List Node) → length ns ≤ 512 → Stands ns 65535 leaf
+no-tree : (ns : List Node) → length ns ≤ 512 → Stands ns 65535 leaf
 no-tree ns few = record { lies = tt; root-is = refl; balanced = tt; rising = tt; apart = λ m. omega arith; few = few }
+
+pub standing-none : (ns : List Node) → length ns ≤ 512 → Standing ns 65535
+standing-none ns few = standing ns 65535 leaf (no-tree ns few)
 
 pub end-is : (ns : List Node) (root : ℕ) → root ≡ 65535 → treeAt ns root ≡ leaf
 unfolding treeAt treeFor
@@ -149,10 +151,6 @@ opened-of ns root (node i e l r) s ne = subst (Opened ns) (s .root-is) (opened-a
 
 pub opened : (ns : List Node) (root : ℕ) → Standing ns root → (root ≡ 65535 → ⊥) → Opened ns root
 opened ns root s ne = opened-of ns root (treeAt ns root) s ne
-
--- a tree with entries has a root
-pub no-end : (ns : List Node) (root : ℕ) → (entriesAt ns root ≡ [] → ⊥) → root ≡ 65535 → ⊥
-no-end ns root h e = h (ap entries (end-is ns root e))
 
 module _ (ns : List Node) (root m : ℕ) (s : Standing ns root) (o : Opened ns root) (e : high ns root ≡ m) where
   pub falls-left : high ns (nodeAt ns root .left) < m

@@ -1,14 +1,13 @@
 -- The pool of the tests: 20 above 10 and 30.
 use mathlib.Core.Path.{_≡_, refl}
 use mathlib.Core.List.{List, [], _∷_}
-use Prim.Native.Nat.{ℕ, _+_, _≤_}
+use Prim.Native.Nat.{ℕ, _≤_}
 use native.Mathlib.Omega.{arith}
-use lib.Dec.{eqb}
 use Rattle.std.proofs.shelf.Ways.{tells}
 use Rattle.trees.specs.declared.Node.{Node}
-use Rattle.trees.specs.Counts.{single, times}
-use Rattle.trees.specs.Trees.{Tree, leaf, node, top, tall, entries, places}
-use Rattle.trees.specs.Pools.{Stands, Standing, treeAt, entriesAt, placesAt}
+use Rattle.trees.specs.Counts.{times}
+use Rattle.trees.specs.Trees.{Tree, leaf, node}
+use Rattle.trees.specs.Pools.{Stands, Standing, treeAt}
 use Rattle.trees.proofs.Pools.{standing, tree-is}
 
 abbrev pub small : List Node

@@ -11,7 +11,7 @@
 --   Kept            nothing but the nodes of some indices was altered
 use mathlib.Core.Path.{_≡_}
 use mathlib.Core.List.{List}
-use mathlib.Core.Bool.{Bool, true, false, cond}
+use mathlib.Core.Bool.{true, false, cond}
 use Prim.Native.Nat.{ℕ, zero, suc, _+_, _<_, _≤_, max}
 use lib.Dec.{eqb}
 use lib.ListN.{length, getD}

@@ -3,7 +3,6 @@
 use crate::Found;
 use crate::NONE;
 use crate::Node;
-ghost use mathlib.Core.Path.{_≡_};
 ghost use Rattle.trees.specs.Trees.{low-way, high-way};
 ghost use Rattle.trees.specs.Pools.{Standing, treeAt, entriesAt};
 ghost use Rattle.trees.specs.Answers.{Saw, foremost, hindmost};

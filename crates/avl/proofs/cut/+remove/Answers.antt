@@ -1,5 +1,5 @@
 use native.Mathlib.Omega.{arith}
-use Rattle.trees.proofs.Pools.{Opened, opened, falls-left, falls-right, low}
+use Rattle.trees.proofs.Pools.{opened, falls-left, falls-right, low}
 use Rattle.avl.proofs.Removals.{held-root, held-left, held-right, left-loose, left-near, cut-left-rising, cut-left, cut-right-loose, cut-right-near, cut-right, cut-here}
 use Rattle.avl.proofs.cut.+remove.Needs as need
 

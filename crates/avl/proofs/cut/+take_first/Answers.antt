@@ -1,4 +1,4 @@
-use Rattle.trees.proofs.Pools.{Opened, opened, falls-left}
+use Rattle.trees.proofs.Pools.{opened, falls-left}
 use Rattle.avl.proofs.Removals.{first-here, left-loose, left-near, first-rising, first-after}
 use Rattle.avl.proofs.cut.+take_first.Needs as need
 

@@ -1,4 +1,4 @@
-use Rattle.trees.proofs.Pools.{Opened, opened}
+use Rattle.trees.proofs.Pools.{opened}
 use Rattle.avl.proofs.Removals.{rootless-left, rootless-right, root-loose, root-near, rootless-both}
 use Rattle.avl.proofs.cut.drop_root.Needs as need
 

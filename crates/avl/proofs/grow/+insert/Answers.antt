@@ -1,5 +1,5 @@
 use native.Mathlib.Omega.{arith}
-use Rattle.trees.proofs.Pools.{Opened, opened, falls-left, falls-right, low}
+use Rattle.trees.proofs.Pools.{opened, falls-left, falls-right, low}
 use Rattle.avl.proofs.Inserts.{grew-leaf, fresh-left, fresh-right, loose-left, near-left, grew-left, loose-right, near-right, grew-right}
 use Rattle.avl.proofs.grow.+insert.Needs as need
 

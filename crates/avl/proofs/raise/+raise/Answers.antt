@@ -3,7 +3,7 @@ use native.Mathlib.Omega.{arith}
 use lib.ListN.{length, getD}
 use Rattle.trees.specs.Pools.{treeAt}
 use Rattle.avl.specs.Builds.{Built}
-use Rattle.avl.proofs.Builds.{lower, same-low, Halves, halves, built-none, order-short, order-left, order-right, build-hook, built-join}
+use Rattle.avl.proofs.Builds.{lower, same-low, halves, built-none, order-short, order-left, order-right, build-hook, built-join}
 use Rattle.avl.proofs.raise.+raise.Needs as need
 
 pub returns-then-count-eq0 : need.returns-then-count-eq0

@@ -1,9 +1,9 @@
-use mathlib.Core.Path.{_≡_, refl, ap, _∙_}
+use mathlib.Core.Path.{refl, ap}
 use mathlib.Core.List.{List, [], _∷_}
 use native.Mathlib.Omega.{arith}
 use Rattle.entry.specs.Lists.{at, filled}
 use Rattle.trees.specs.declared.Node.{Node}
-use Rattle.avl.proofs.Worked.{Known, known-none, known-fresh, known-grown}
+use Rattle.avl.proofs.Worked.{known-none, known-fresh, known-grown}
 use Rattle.avl.proofs.tests.rising_keys.Needs as need
 
 abbrev blank : Node

@@ -1,4 +1,4 @@
-use Prim.Native.Nat.{_<_, _≤_}
+use Prim.Native.Nat.{_<_, _≤_, _^_}
 use mathlib.Core.Path.{_≡_, sym, ap, subst, _∙_}
 use native.Mathlib.Omega.{arith}
 use lib.ListN.{length}
@@ -25,8 +25,10 @@ finish-requires g c κs =
     let u = g .L·OrderedIndex .view (c .last-before .last .self) in
     let law = g .L·OrderedIndex·met .lawful (c .args .leases .now) (c .pre .sound) in
     let room : length (v .entries) < v .limit = omega (arith, c .len .ensures, c .limit .ensures) in
+    let small : c .in-Ok .standing .key < 2 ^ 32 =
     found-small v law (c .pre .leased) (c .args .first) (c .args .second) (c .args .holder .number) (c .args .holder .bounds) (c .pre .fit) u (c .last-before .result) (c .last-before .ensures .step) room
-    (c .in-Ok .standing) (c .in-Ok .is)
+    (c .in-Ok .standing) (c .in-Ok .is) in
+    omega arith
 
 pub returns-then-finish-first : need.returns-then-finish-first
 returns-then-finish-first g c =

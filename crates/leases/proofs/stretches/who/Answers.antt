@@ -1,3 +1,4 @@
+use Prim.Native.Nat.{_<_, _^_}
 use native.Mathlib.Omega.{arith}
 use Rattle.leases.specs.Plans.{Planned, refusal}
 use Rattle.leases.specs.Commands.{who-plan}
@@ -11,7 +12,9 @@ finish-requires g c κs =
     let v = g .L·OrderedIndex .view (c .args .leases .now) in
     let u = g .L·OrderedIndex .view (c .last-below .last .self) in
     let law = g .L·OrderedIndex·met .lawful (c .args .leases .now) (c .pre .sound) in
-    who-small v law (c .pre .leased) (c .args .station) (c .pre .fit) u (c .last-below .result) (c .last-below .ensures .step) (c .in-Ok .standing) (c .in-Ok .is)
+    let small : c .in-Ok .standing .key < 2 ^ 32 =
+    who-small v law (c .pre .leased) (c .args .station) (c .pre .fit) u (c .last-below .result) (c .last-below .ensures .step) (c .in-Ok .standing) (c .in-Ok .is) in
+    omega arith
 
 pub returns-then-finish-station : need.returns-then-finish-station
 returns-then-finish-station g c =

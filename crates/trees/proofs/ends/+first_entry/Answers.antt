@@ -1,10 +1,9 @@
-use mathlib.Core.Path.{_≡_, refl, sym, ap, _∙_}
-use Prim.Native.Nat.{_<_, _+_}
+use mathlib.Core.Path.{refl, sym, ap, _∙_}
 use native.Mathlib.Omega.{arith}
 use Rattle.std.specs.declared.option.Option.the-variants.{Some}
 use Rattle.std.specs.Options.{orOther}
 use Rattle.trees.specs.Trees.{entries}
-use Rattle.trees.specs.Pools.{entryAt, leftAt, rightAt, nodeAt}
+use Rattle.trees.specs.Pools.{entryAt, leftAt, rightAt}
 use Rattle.trees.specs.Answers.{foremost}
 use Rattle.trees.proofs.Pools.{opened, end-is, falls-left, low}
 use Rattle.trees.proofs.Looks.{saw-none, front-or, entries-open, tall-open, low-open}

@@ -1,14 +1,12 @@
-use borrow.Author.Needs.{needs}
-use mathlib.Core.Path.{_≡_, refl, sym, ap, subst, _∙_}
-use Prim.Native.Nat.{_<_, _≤_, _+_}
+use mathlib.Core.Path.{refl, sym, ap, subst, _∙_}
+use Prim.Native.Nat.{_<_}
 use native.Mathlib.Omega.{arith}
-use lib.ListN.{length}
 use Rattle.std.specs.declared.option.Option.the-variants.{Some, None}
 use Rattle.entry.specs.Lists.{at}
-use Rattle.trees.specs.Trees.{seen, tall}
+use Rattle.trees.specs.Trees.{seen}
 use Rattle.trees.specs.Pools.{leftAt, rightAt, nodeAt}
 use Rattle.trees.specs.Answers.{foremost, Saw}
-use Rattle.trees.proofs.Pools.{Opened, opened, end-is, falls-left, falls-right, low}
+use Rattle.trees.proofs.Pools.{opened, end-is, falls-left, falls-right, low}
 use Rattle.trees.proofs.Looks.{saw-none, saw-here, tall-open, at-here, at-low, at-high, path-here, path-low, path-high}
 use Rattle.trees.proofs.seek.+find.Needs as need
 use Rattle.trees.proofs.seek.+find.Needs.{then-key-here-2, else-key-here-2}

@@ -1,11 +1,10 @@
 use borrow.Author.Needs.{needs}
-use mathlib.Core.Path.{_≡_, refl, sym, ap, _∙_}
-use mathlib.Core.List.{_∷_, _++_}
+use mathlib.Core.Path.{sym, ap, _∙_}
 use Prim.Native.Nat.{_+_, _<_}
 use native.Mathlib.Omega.{arith}
-use lib.ListN.{length, set, length-set, length-append}
+use lib.ListN.{length, set, length-set}
 use Rattle.trees.specs.Trees.{places}
-use Rattle.trees.specs.Pools.{leftAt, rightAt, placesAt}
+use Rattle.trees.specs.Pools.{leftAt, rightAt}
 use Rattle.trees.specs.Answers.{laid}
 use Rattle.trees.proofs.Pools.{opened, falls-left, falls-right}
 use Rattle.trees.proofs.Looks.{walk-both, walk-long}

@@ -1,4 +1,4 @@
-use mathlib.Core.Path.{_≡_, refl, sym, ap, _∙_}
+use mathlib.Core.Path.{_≡_, refl, _∙_}
 use mathlib.Core.List.{[], _∷_, _++_}
 use Prim.Native.Nat.{_+_, _<_}
 use native.Mathlib.Omega.{arith}
@@ -15,7 +15,7 @@ index-self-self c =
 pub ghost-self : need.ghost-self
 ghost-self c =
     let lt : c .args .self .now .count < 512 = index-self-self c in
-    (c .args .self .now .whole, (length-set (c .args .self .now .spare) (c .args .self .now .count) (c .args .node) ∙ c .args .self .now .long, (omega arith, tt)))
+    (c .args .self .now .whole, (length-set (c .args .self .now .spare) (c .args .self .now .count) _ ∙ c .args .self .now .long, (omega arith, tt)))
 
 pub returns : need.returns
 returns c =

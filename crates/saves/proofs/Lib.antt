@@ -1,0 +1,9 @@
+pub mod Wires
+pub mod Saving
+pub mod Reading
+pub mod Ranks
+pub mod Accepting
+pub mod Settling
+pub mod Restoring
+pub mod Loading
+pub mod Seasons

@@ -1,0 +1,13 @@
+pub mod Beside
+pub mod Finds
+pub mod Fresh
+pub mod Lists
+pub mod Merges
+pub mod Middle
+pub mod Near
+pub mod Opened
+pub mod Parts
+pub mod Quiet
+pub mod Ranges
+pub mod Spans
+pub mod Splits

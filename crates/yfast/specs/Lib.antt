@@ -1,0 +1,5 @@
+pub mod Answers
+pub mod Making
+pub mod Near
+pub mod Spans
+pub mod Whole
