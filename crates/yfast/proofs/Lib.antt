@@ -1,4 +1,6 @@
+pub mod Adds
 pub mod Beside
+pub mod Enter
 pub mod Finds
 pub mod Fresh
 pub mod Lists

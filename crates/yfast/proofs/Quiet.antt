@@ -51,7 +51,7 @@ one-key w k = elim (cases-bool (leb (2 ^ w) k)) [
 
 module _ (w : ℕ) (f : Pairs) (room tally : ℕ) (i : Inside) (big : 8 ≤ w) (wh : Whole w f room tally i) where
   -- a call that leaves everything but the tally as it was
-  quiet-step : (c : Call) (ps : List Entry) (a : Answered) (n : ℕ) → n < 2 ^ 64 → n ≡ raised tally (a .answer .frames) →
+  pub quiet-step : (c : Call) (ps : List Entry) (a : Answered) (n : ℕ) → n < 2 ^ 64 → n ≡ raised tally (a .answer .frames) →
       Obeys a (row-of (i .table) (i .pool)) (step w (i .limit) c ps (row-of (i .table) (i .pool))) →
       a .answer .visits ≡ visits w c (row-of (i .table) (i .pool)) (grove-of (i .table) (i .pool)) →
       Step w (i .limit) (state-of f tally i) c ps a (state-of f n i)

@@ -1,4 +1,5 @@
 pub mod Answers
+pub mod Changing
 pub mod Making
 pub mod Near
 pub mod Spans

@@ -2,6 +2,7 @@
 //
 // Representatives of buckets are laid out in the dictionary, level by level, so that a search finds a
 // key's bucket in few frames; the entries themselves are in balanced trees, one a bucket, in one pool.
+mod add;
 mod answers;
 mod find;
 pub mod index;
@@ -11,3 +12,4 @@ mod make;
 mod next;
 mod range;
 mod rebuild;
+mod rebuilt;
