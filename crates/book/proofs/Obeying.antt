@@ -4,19 +4,17 @@
 --   refused-did     a command refused before the first frame
 --   planned-did     a command carried out on its index
 --   names-bounded, leases-bounded, events-bounded   what a book keeps, as one index steps on
-use Prim.Native.Nat.{ℕ}
 use mathlib.Core.Path.{_≡_, refl, sym, ap, subst, _∙_}
-use mathlib.Core.List.{List, []}
-use mathlib.Core.Bool.{Bool, true, false, cond, _||_}
+use mathlib.Core.List.{[]}
+use mathlib.Core.Bool.{Bool, true, false, cond}
 use native.Mathlib.Omega.{arith}
 use Rattle.std.specs.declared.option.Option.{Option}
 use Rattle.std.specs.declared.option.Option.the-variants.{Some, None}
 use Rattle.std.specs.declared.result.Result.the-variants.{Err}
-use Rattle.std.proofs.shelf.Tests.{or-parts}
 use Rattle.ordered.specs.declared.calls.Answer.{Answer}
 use Rattle.ordered.specs.declared.refusal.Refusal.{Refusal}
 use Rattle.ordered.specs.declared.refusal.Refusal.the-variants.{Shut}
-use Rattle.ordered.specs.Meaning.{View, Lawful}
+use Rattle.ordered.specs.Meaning.{View}
 use Rattle.wire.specs.declared.command.Command.{Command}
 use Rattle.wire.specs.Commands.{fields}
 use Rattle.leases.specs.Plans.{Plan, Planned, refusal, turned-away, unless}
@@ -31,11 +29,6 @@ use Rattle.book.specs.declared.part.Part.the-variants.{Names, Leases, Events}
 use Rattle.book.specs.Books.{BookView, view-of, look, part-of, shut, Bounded, Standing, book-plan, Kept, Did}
 
 -- ---- one of the three indexes
-pub with-part : Part → BookView → View → BookView
-with-part Names b v = view-of v (b .leases) (b .events)
-with-part Leases b v = view-of (b .names) v (b .events)
-with-part Events b v = view-of (b .names) (b .leases) v
-
 pub part-seven : (p : Part) (b : BookView) → Standing b → Seven (look p b)
 part-seven Names b s = seven 56 (b .names) (omega arith) (omega arith) (s .names)
 part-seven Leases b s = seven 32 (b .leases) (omega arith) (omega arith) (s .leases)

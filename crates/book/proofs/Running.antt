@@ -1,7 +1,7 @@
 -- A script, command by command.
-use Prim.Native.Nat.{ℕ, zero, suc, _+_, _-_, _*_, _^_, _≤_, _<_, min}
-use mathlib.Core.Path.{_≡_, refl, sym, ap, subst, _∙_}
-use mathlib.Core.Logic.{_⊎_, inl, inr, ⊎-elim}
+use Prim.Native.Nat.{ℕ, suc, _+_, _-_, _*_, _≤_, _<_, min}
+use mathlib.Core.Path.{_≡_, refl, sym, ap, _∙_}
+use mathlib.Core.Logic.{_⊎_, ⊎-elim}
 use mathlib.Core.List.{List, [], _∷_, _++_, map, append-nil, append-assoc}
 use native.Mathlib.Omega.{arith}
 use native.Mathlib.Numerals.{add-one}
@@ -11,13 +11,12 @@ use lib.Seq.{take-all, drop-drop}
 use Rattle.std.proofs.shelf.Lists.{map-append}
 use Rattle.std.proofs.shelf.Parts.{take-putMid, drop-putMid}
 use Rattle.std.proofs.shelf.Tests.{cases-lt}
-use Rattle.ordered.specs.declared.calls.Answer.{Answer}
 use Rattle.wire.specs.Reading.{code-of}
 use Rattle.wire.specs.Replies.{reply}
 use Rattle.leases.specs.Commands.{change}
 use Rattle.book.specs.Books.{BookView}
-use Rattle.book.specs.Serving.{Served, Answered}
-use Rattle.book.specs.Runs.{Turn, Runs, start, more, frames, changes, Frames, piece, pieces, written, Ran}
+use Rattle.book.specs.Serving.{Answered}
+use Rattle.book.specs.Runs.{Turn, Runs, start, more, frames, changes, piece, pieces, written, Ran}
 use Rattle.book.proofs.Summing.{Adds, adds-none, adds-then, adds-frames, served-adds}
 
 -- ---- sums over one turn more

@@ -6,23 +6,21 @@
 --   did-adds        a command that is obeyed
 --   served-adds     any bytes
 use Prim.Native.Nat.{ℕ, _+_, _*_, _^_, _≤_, _<_}
-use mathlib.Core.Path.{_≡_, refl, sym, ap, _∙_}
+use mathlib.Core.Path.{_≡_, sym, ap, _∙_}
 use mathlib.Core.Logic.{inl, inr}
 use mathlib.Core.List.{List}
-use mathlib.Core.Bool.{Bool, true, false}
 use native.Mathlib.Omega.{arith}
 use lib.ListN.{length}
 use Rattle.std.specs.declared.result.Result.{Result}
 use Rattle.std.specs.declared.result.Result.the-variants.{Ok, Err}
 use Rattle.std.proofs.shelf.Tests.{cases-bool}
-use Rattle.dictionary.specs.Pairs.{top, raised}
 use Rattle.entry.specs.declared.Entry.{Entry}
 use Rattle.ordered.specs.declared.calls.Answer.{Answer}
 use Rattle.ordered.specs.declared.refusal.Refusal.{Refusal}
 use Rattle.ordered.specs.Meaning.{View}
 use Rattle.wire.specs.declared.command.Command.{Command}
 use Rattle.wire.specs.Commands.{fields, changing}
-use Rattle.wire.specs.Reading.{Spells, code-of}
+use Rattle.wire.specs.Reading.{code-of}
 use Rattle.wire.proofs.Codes.{code-spelt}
 use Rattle.leases.specs.Plans.{Plan, Planned, refusal}
 use Rattle.leases.specs.Commands.{change}
@@ -31,7 +29,7 @@ use Rattle.book.specs.declared.part.Part.{Part}
 use Rattle.book.specs.declared.part.Part.the-variants.{Names, Leases, Events}
 use Rattle.book.specs.Books.{BookView, look, part-of, Kept, Did, book-plan}
 use Rattle.book.specs.Serving.{Served, turned, unread, obeyed}
-use Rattle.book.specs.Runs.{tallies, credits, Fresh, New, From-new, most-tried, Frames}
+use Rattle.book.specs.Runs.{tallies, credits, Frames}
 use Rattle.book.proofs.Obeying.{book-sized}
 
 -- ---- what one step adds; a change is a try too

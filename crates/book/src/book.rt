@@ -4,7 +4,6 @@
 // Relied on, and kept by every command: each index is sound, holds at most 256 entries where it is not
 // shut, and the leases share no station.
 ghost use mathlib.Core.Path.{_≡_};
-ghost use Rattle.leases.specs.Stretches.{Spaced};
 ghost use Rattle.book.specs.Books.{Bounded, view-of};
 use crate::ledger::Ledger;
 use crate::part::Part;

@@ -7,11 +7,11 @@
 --   due-none, due-later, due-taken
 use Prim.Native.Nat.{ℕ, _*_, _+_, _/_, _%_, _^_, _≤_, _<_}
 use mathlib.Core.Path.{_≡_, refl, sym, ap, subst, _∙_}
-use mathlib.Core.Logic.{_⊎_, inl, inr}
+use mathlib.Core.Logic.{inl, inr}
 use mathlib.Core.List.{List, [], _∷_}
 use mathlib.Core.Bool.{true, false}
 use native.Mathlib.Omega.{arith}
-use lib.Dec.{leb, ltb, eqb}
+use lib.Dec.{leb, eqb}
 use lib.ListN.{length}
 use Rattle.std.specs.shelf.Lists.{All}
 use Rattle.std.specs.declared.option.Option.the-variants.{None}
@@ -20,21 +20,21 @@ use Rattle.std.proofs.shelf.Tests.{le-leb, lt-leb, lt-ltb, le-ltb, eq-eqb, ne-e
 use Rattle.std.proofs.shelf.Ways.{tells as tests}
 use Rattle.key.proofs.Logs.{most-within}
 use Rattle.entry.specs.declared.Entry.{Entry}
-use Rattle.entry.specs.Lists.{at, from, upto, put, without, filled, first, final}
+use Rattle.entry.specs.Lists.{at, from, upto, put, without, filled, first}
 use Rattle.ordered.specs.declared.calls.Answer.{Answer}
 use Rattle.ordered.specs.declared.calls.Call.the-variants.{Add, Remove, Find, Next, Last}
 use Rattle.ordered.specs.declared.refusal.Refusal.{Refusal}
 use Rattle.ordered.specs.declared.refusal.Refusal.the-variants.{Absent, Full, Nothing, Shared, Holder, Later}
-use Rattle.ordered.specs.Sorted.{no-find, no-add, tells, keeps, fitting}
+use Rattle.ordered.specs.Sorted.{no-find, no-add, tells, keeps}
 use Rattle.ordered.specs.Meaning.{View, Stepped, Lawful}
 use Rattle.leases.specs.Checks.{unfit}
-use Rattle.leases.specs.Plans.{Plan, Planned, refusal, together, turned-away}
+use Rattle.leases.specs.Plans.{Planned, refusal, together}
 use Rattle.leases.specs.Stretches.{end, holder-of, entered, Noted, Spaced, sharing, Leased}
-use Rattle.leases.specs.Commands.{lease-plan, granted, release-plan, released, who-plan, due-plan, taken}
+use Rattle.leases.specs.Commands.{lease-plan, release-plan, who-plan, due-plan}
 use Rattle.leases.proofs.Planning.{Seven, Quiet, refuse-early, refuse-after, quiet-call, two-calls}
 use Rattle.leases.proofs.Spacing.{spaced-put, spaced-without, Clear}
 use Rattle.leases.proofs.Deciding.{Free, reached, not-reached, none-sharing, clear, covering, none-at, spaced-upto, final-small}
-use Rattle.leases.proofs.Telling.{fits, Found, Missed, outcome-is, entries-are, quiet-last, quiet-find, quiet-next, last-found, last-missed, find-held, find-absent, next-found, next-missed}
+use Rattle.leases.proofs.Telling.{fits, Found, outcome-is, entries-are, quiet-last, quiet-find, quiet-next, last-found, last-missed, find-held, find-absent, next-found, next-missed}
 
 pub seven : (w : ℕ) (v : View) → 8 ≤ w → w ≤ 60 → Lawful w v → Seven v
 seven w v lo hi law = record { most-frames = rw (law .wide) (most-within w lo hi .1); counts = law .counts }

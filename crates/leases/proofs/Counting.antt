@@ -1,6 +1,6 @@
 -- What every plan has: at most two calls, and a change exactly where its code is one that changes and it is accepted.
-use Prim.Native.Nat.{ℕ, _^_, _≤_, _<_}
-use mathlib.Core.Path.{_≡_, refl, sym, ap, subst, _∙_}
+use Prim.Native.Nat.{ℕ, _≤_}
+use mathlib.Core.Path.{_≡_, refl, sym}
 use mathlib.Core.Logic.{inl, inr}
 use mathlib.Core.List.{List, [], _∷_}
 use mathlib.Core.Bool.{Bool, true, false, cond}
@@ -9,7 +9,6 @@ use lib.Dec.{leb, ltb, eqb}
 use lib.ListN.{length}
 use Rattle.std.specs.declared.option.Option.{Option}
 use Rattle.std.specs.declared.option.Option.the-variants.{Some, None}
-use Rattle.std.specs.declared.result.Result.{Result}
 use Rattle.std.specs.declared.result.Result.the-variants.{Ok, Err}
 use Rattle.std.proofs.shelf.Tests.{cases-bool}
 use Rattle.entry.specs.declared.Entry.{Entry}
@@ -17,7 +16,7 @@ use Rattle.entry.specs.Lists.{at, put, without, filled, first}
 use Rattle.ordered.specs.declared.refusal.Refusal.{Refusal}
 use Rattle.ordered.specs.declared.calls.Call.{Call}
 use Rattle.ordered.specs.declared.calls.Call.the-variants.{Add, Remove, Find, Next, Last, Range}
-use Rattle.ordered.specs.Sorted.{Listed, refused, misfit, fitting, listed, unless as listed-unless, accepted, changed, no-add, no-find, no-near, no-range, tells, keeps, writes}
+use Rattle.ordered.specs.Sorted.{Listed, misfit, fitting, listed, unless as listed-unless, changed, no-add, no-find, tells, keeps}
 use Rattle.ordered.specs.Meaning.{View, answers, told, after}
 use Rattle.wire.specs.declared.command.Command.{Command}
 use Rattle.wire.specs.declared.command.Command.the-variants.{AddName, RemoveName, FindName, NextName, Lease, Release, Who, AddEvent, RemoveEvent, Due}

@@ -7,18 +7,18 @@
 --   none-sharing, clear   and none shares a station
 --   covering        the last of those that start at or below a station, if it reaches it, is the one that covers it
 use Prim.Native.Nat.{ℕ, _≤_, _<_}
-use mathlib.Core.Path.{_≡_, refl, sym, ap, _∙_}
+use mathlib.Core.Path.{_≡_, refl, ap, _∙_}
 use mathlib.Core.Logic.{_⊎_, inl, inr}
 use mathlib.Core.List.{List, [], _∷_}
-use mathlib.Core.Bool.{Bool, true, false, _&&_}
+use mathlib.Core.Bool.{true, false}
 use native.Mathlib.Omega.{arith}
 use lib.Dec.{leb}
 use Rattle.std.specs.shelf.Lists.{All, kept-by}
 use Rattle.std.proofs.shelf.Tests.{cases-bool, leb-false, leb-true, le-leb, lt-leb, ne-eqb}
 use Rattle.entry.specs.declared.Entry.{Entry}
-use Rattle.entry.specs.Lists.{at, upto, filled, first, final}
+use Rattle.entry.specs.Lists.{at, upto, filled, final}
 use Rattle.entry.proofs.Filters.{kept-none}
-use Rattle.leases.specs.Stretches.{end, Noted, Spaced, shares, sharing}
+use Rattle.leases.specs.Stretches.{end, Noted, Spaced, sharing}
 use Rattle.leases.proofs.Spacing.{spaced-kept, Clear}
 
 -- the leases that end at or after a station

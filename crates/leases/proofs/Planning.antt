@@ -8,9 +8,8 @@
 --   quiet-call      one call that changes nothing, under another plan of it
 --   two-calls       two calls, the first of which changes nothing
 use Prim.Native.Nat.{ℕ, _+_, _*_, _^_, _≤_, _<_}
-use mathlib.Core.Path.{_≡_, refl, sym, ap, subst, _∙_}
+use mathlib.Core.Path.{_≡_, refl, sym, ap, _∙_}
 use mathlib.Core.List.{List, [], _∷_}
-use mathlib.Core.Bool.{true, false}
 use mathlib.Core.Logic.{inl, inr}
 use native.Mathlib.Omega.{arith}
 use lib.ListN.{length}
@@ -18,7 +17,6 @@ use Rattle.std.specs.declared.option.Option.{Option}
 use Rattle.std.specs.declared.option.Option.the-variants.{Some, None}
 use Rattle.std.proofs.shelf.Tests.{cases-bool, lt-ltb}
 use Rattle.std.specs.declared.result.Result.{Result}
-use Rattle.std.specs.declared.result.Result.the-variants.{Err}
 use Rattle.dictionary.specs.Pairs.{raised}
 use Rattle.key.specs.Widths.{most}
 use Rattle.entry.specs.declared.Entry.{Entry}
@@ -26,7 +24,6 @@ use Rattle.entry.specs.Lists.{at, from, upto, between, first, final}
 use Rattle.ordered.specs.declared.calls.Answer.{Answer}
 use Rattle.ordered.specs.declared.calls.Call.{Call}
 use Rattle.ordered.specs.declared.calls.Call.the-variants.{Add, Remove, Find, Next, Last, Range}
-use Rattle.ordered.specs.declared.calls.Rebuilding.{Rebuilding}
 use Rattle.ordered.specs.declared.calls.Rebuilding.the-variants.{Unchanged}
 use Rattle.ordered.specs.declared.refusal.Refusal.{Refusal}
 use Rattle.ordered.specs.Sorted.{Listed, no-add, no-find, no-near, no-range, tells, writes, misfit, fitting, listed, unless as listed-unless, changed}

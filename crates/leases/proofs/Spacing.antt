@@ -5,20 +5,20 @@
 --   spaced-without   one taken out
 --   none-shared      no station lies in two
 use Prim.Native.Nat.{ℕ, zero, suc, _≤_, _<_}
-use mathlib.Core.Path.{_≡_, refl, sym, ap, subst, _∙_}
+use mathlib.Core.Path.{_≡_}
 use mathlib.Core.Logic.{_⊎_, inl, inr, ⊎-elim}
 use mathlib.Core.List.{List, [], _∷_, _++_}
-use mathlib.Core.Bool.{Bool, true, false}
+use mathlib.Core.Bool.{Bool, false}
 use native.Mathlib.Omega.{arith}
-use lib.Dec.{leb, ltb}
+use lib.Dec.{ltb}
 use lib.ListN.{length, getD}
 use Rattle.std.specs.shelf.Lists.{All, kept-by}
 use Rattle.std.proofs.shelf.Elements.{all-kept-by, all-append, all-weaker, all-getD}
-use Rattle.std.proofs.shelf.Tests.{cases-bool, cases-order, cases-lt, ltb-true, ltb-false, le-ltb, lt-ltb}
+use Rattle.std.proofs.shelf.Tests.{cases-bool, cases-order, cases-lt, ltb-true, ltb-false, le-ltb}
 use Rattle.entry.specs.declared.Entry.{Entry}
 use Rattle.entry.specs.Lists.{blank, below, above, put, without, Over}
 use Rattle.entry.proofs.Filters.{over-below}
-use Rattle.leases.specs.Stretches.{end, Noted, Spaced, Covers, No-shared-station}
+use Rattle.leases.specs.Stretches.{end, Noted, Spaced, No-shared-station}
 
 pub spaced-kept : (p : Entry → Bool) (xs : List Entry) → Spaced xs → Spaced (kept-by p xs)
 spaced-kept p [] s = tt

@@ -1,20 +1,17 @@
 -- What an index that is not shut tells of a call whose key fits.
-use Prim.Native.Nat.{ℕ, _^_, _≤_, _<_}
+use Prim.Native.Nat.{ℕ, _^_, _<_}
 use mathlib.Core.Path.{_≡_, refl, sym, ap, _∙_}
 use mathlib.Core.List.{List, [], _∷_}
 use mathlib.Core.Bool.{true, false}
 use native.Mathlib.Omega.{arith}
-use lib.ListN.{length}
-use Rattle.std.specs.declared.option.Option.{Option}
-use Rattle.std.specs.declared.option.Option.the-variants.{Some, None}
-use Rattle.std.specs.declared.result.Result.{Result}
+use Rattle.std.specs.declared.option.Option.the-variants.{None}
 use Rattle.std.specs.declared.result.Result.the-variants.{Ok, Err}
-use Rattle.std.proofs.shelf.Tests.{lt-leb, le-leb, eq-eqb}
+use Rattle.std.proofs.shelf.Tests.{lt-leb}
 use Rattle.entry.specs.declared.Entry.{Entry}
 use Rattle.entry.specs.Lists.{at, from, upto, filled, first, final}
 use Rattle.ordered.specs.declared.calls.Answer.{Answer}
 use Rattle.ordered.specs.declared.calls.Call.{Call}
-use Rattle.ordered.specs.declared.calls.Call.the-variants.{Add, Remove, Find, Next, Last}
+use Rattle.ordered.specs.declared.calls.Call.the-variants.{Find, Next, Last}
 use Rattle.ordered.specs.declared.refusal.Refusal.{Refusal}
 use Rattle.ordered.specs.declared.refusal.Refusal.the-variants.{Absent, Nothing}
 use Rattle.ordered.specs.Sorted.{Listed, large, misfit, no-find, no-near, tells, fitting, listed}

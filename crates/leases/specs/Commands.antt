@@ -8,7 +8,7 @@
 --   commanded      the plan of any command: refused before the first frame by its keys, or carried out
 --   change         1 for an accepted command that changes entries, otherwise 0
 use Prim.Native.Nat.{ℕ}
-use mathlib.Core.List.{List, [], _∷_}
+use mathlib.Core.List.{[], _∷_}
 use mathlib.Core.Bool.{cond}
 use lib.Dec.{leb, ltb, eqb}
 use lib.ListN.{length}

@@ -1,7 +1,7 @@
 // Events that fall due.
 ghost use mathlib.Core.Path.{_≡_};
 ghost use mathlib.Core.Bool.{false};
-ghost use Prim.Native.Nat.{_<_, _^_};
+ghost use Prim.Native.Nat.{_<_};
 ghost use Rattle.leases.specs.Plans.{Planned};
 ghost use Rattle.leases.specs.Commands.{due-plan};
 use crate::answers::joined;

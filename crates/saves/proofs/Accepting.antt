@@ -5,51 +5,49 @@
 --   Proper     an entry that a part of a book can hold
 --   command-for   the command of such an entry's record
 --   granted    it is accepted where all records standing are before it, and there is room
-use Prim.Native.Nat.{ℕ, _+_, _*_, _/_, _%_, _^_, _≤_, _<_}
-use mathlib.Core.Path.{_≡_, refl, sym, ap, subst, _∙_}
-use mathlib.Core.Logic.{_⊎_, inl, inr}
+use Prim.Native.Nat.{ℕ, _+_, _/_, _^_, _<_}
+use mathlib.Core.Path.{_≡_, refl, sym, ap, _∙_}
+use mathlib.Core.Logic.{inl, inr}
 use mathlib.Core.List.{List, [], _∷_, _++_, map}
-use mathlib.Core.Bool.{Bool, true, false, cond}
+use mathlib.Core.Bool.{true, false}
 use native.Mathlib.Omega.{arith}
 use lib.Dec.{leb, ltb, eqb}
 use lib.ListN.{length}
 use Rattle.std.specs.shelf.Lists.{All}
 use Rattle.std.specs.declared.option.Option.{Option}
 use Rattle.std.specs.declared.option.Option.the-variants.{Some, None}
-use Rattle.std.specs.declared.result.Result.{Result}
-use Rattle.std.specs.declared.result.Result.the-variants.{Ok, Err}
+use Rattle.std.specs.declared.result.Result.the-variants.{Ok}
 use Rattle.std.proofs.shelf.Elements.{all-weaker, all-kept-by}
-use Rattle.std.proofs.shelf.Tests.{cases-bool, lt-leb, lt-ltb, le-ltb, eq-eqb, false≢true}
-use Rattle.std.proofs.shelf.Ways.{tells as tests}
+use Rattle.std.proofs.shelf.Tests.{cases-bool, lt-leb, le-ltb, eq-eqb, false≢true}
 use Rattle.entry.specs.declared.Entry.{Entry}
-use Rattle.entry.specs.Lists.{at, upto, put, filled, Under}
+use Rattle.entry.specs.Lists.{at, put, filled, Under}
 use Rattle.entry.proofs.Filters.{under-at}
 use Rattle.entry.proofs.Orders.{all-parts}
 use Rattle.ordered.specs.declared.calls.Answer.{Answer}
 use Rattle.ordered.specs.declared.calls.Call.the-variants.{Add}
 use Rattle.ordered.specs.declared.refusal.Refusal.{Refusal}
-use Rattle.ordered.specs.Sorted.{Listed, large, no-add, tells, keeps, fitting}
+use Rattle.ordered.specs.Sorted.{Listed, large, no-add, tells, keeps}
 use Rattle.ordered.specs.Meaning.{View}
 use Rattle.wire.specs.declared.record.Record.{Record}
 use Rattle.wire.specs.declared.command.Command.{Command}
 use Rattle.wire.specs.declared.command.Command.the-variants.{AddName, RemoveName, FindName, NextName, Lease, Release, Who, AddEvent, RemoveEvent, Due}
 use Rattle.wire.specs.Records.{Within}
 use Rattle.wire.specs.Commands.{fields}
-use Rattle.leases.specs.Checks.{unfit, early}
-use Rattle.leases.specs.Plans.{Plan, Planned, unless, call-plan}
+use Rattle.leases.specs.Checks.{unfit}
+use Rattle.leases.specs.Plans.{Plan, unless, call-plan}
 use Rattle.leases.specs.Stretches.{end, holder-of, entered, Noted, Spaced, sharing}
-use Rattle.leases.specs.Commands.{lease-plan, commanded}
-use Rattle.leases.proofs.Carrying.{Fit, fit, end-is}
+use Rattle.leases.specs.Commands.{lease-plan}
+use Rattle.leases.proofs.Carrying.{fit, end-is}
 use Rattle.leases.proofs.Deciding.{none-sharing}
 use Rattle.leases.proofs.Telling.{told-fit, fits}
 use Rattle.book.specs.declared.part.Part.{Part}
 use Rattle.book.specs.declared.part.Part.the-variants.{Names, Leases, Events}
-use Rattle.book.specs.Books.{BookView, look, part-of, shut, Standing, Kept, Did, book-plan}
+use Rattle.book.specs.Books.{BookView, look, shut, Standing, Kept, Did, book-plan}
 use Rattle.book.proofs.Obeying.{book-plan-open}
 use Rattle.saves.specs.Saves.{form, forms, records}
 use Rattle.saves.specs.Loads.{in-turn}
 use Rattle.saves.proofs.Saving.{part-limit}
-use Rattle.saves.proofs.Ranks.{rank, Before}
+use Rattle.saves.proofs.Ranks.{Before}
 
 -- ---- an add
 abbrev add-plan : View → ℕ → ℕ → ℕ → Plan

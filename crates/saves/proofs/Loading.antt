@@ -1,27 +1,25 @@
 -- A whole load: what it tries, its frames, and the bytes that a save writes after it.
-use Prim.Native.Nat.{ℕ, _+_, _*_, _/_, _%_, _≤_, _<_}
+use Prim.Native.Nat.{ℕ, _+_, _*_, _%_, _≤_}
 use mathlib.Core.Path.{_≡_, refl, sym, ap, subst, _∙_}
 use mathlib.Core.Logic.{inl, inr}
 use mathlib.Core.List.{List, [], _∷_, _++_}
-use mathlib.Core.Bool.{Bool, true, false, cond}
+use mathlib.Core.Bool.{true, false}
 use native.Mathlib.Omega.{arith}
 use lib.Dec.{eqb}
-use lib.ListN.{length, take, length-append}
+use lib.ListN.{length, length-append}
 use lib.Seq.{take-all}
 use Rattle.std.specs.declared.option.Option.{Option}
 use Rattle.std.specs.declared.option.Option.the-variants.{Some, None}
 use Rattle.std.proofs.shelf.Tests.{cases-bool, eqb-true, eq-eqb}
-use Rattle.ordered.specs.declared.calls.Answer.{Answer}
 use Rattle.ordered.specs.declared.refusal.Refusal.{Refusal}
-use Rattle.wire.specs.declared.record.Record.{Record}
-use Rattle.book.specs.Books.{BookView, shut, Standing}
-use Rattle.book.specs.Runs.{Turn, frames, changes, Frames, piece}
+use Rattle.book.specs.Books.{BookView, shut}
+use Rattle.book.specs.Runs.{Turn, frames, changes, piece}
 use Rattle.book.proofs.Summing.{Adds, adds-none, adds-then, adds-frames}
 use Rattle.book.proofs.Running.{frames-push, changes-push}
 use Rattle.saves.specs.declared.load.Loaded.{Loaded}
 use Rattle.saves.specs.declared.load.Refused.{Refused}
 use Rattle.saves.specs.Saves.{saved, records}
-use Rattle.saves.specs.Loads.{empty, unready, whole-refused, Ends, Takes-all, Loading, whole, ready, Loads, Restores}
+use Rattle.saves.specs.Loads.{empty, unready, whole-refused, Ends, Takes-all, whole, ready, Loads, Restores}
 use Rattle.saves.proofs.Wires.{length-wires}
 use Rattle.saves.proofs.Settling.{Settled, settled, few-taken, takes-adds, turned-adds, turned-change}
 use Rattle.saves.proofs.Restoring.{restored}

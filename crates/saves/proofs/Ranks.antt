@@ -9,25 +9,23 @@
 --   kept-forms          the records of a part, among those of a book
 --   entry-for, entries-again   an entry from its record; a part's entries from the book's records
 use Prim.Native.Nat.{ℕ, zero, suc, _+_, _-_, _*_, _/_, _%_, _^_, _≤_, _<_}
-use mathlib.Core.Path.{_≡_, refl, sym, ap, subst, _∙_}
+use mathlib.Core.Path.{_≡_, refl, sym, ap, _∙_}
 use mathlib.Core.Logic.{_⊎_, inl, inr, ⊎-elim}
 use mathlib.Core.List.{List, [], _∷_, _++_, map, append-nil}
-use mathlib.Core.Bool.{Bool, true, false, _&&_, _||_}
+use mathlib.Core.Bool.{Bool, true}
 use native.Mathlib.Omega.{arith}
-use lib.Dec.{eqb, ltb}
+use lib.Dec.{eqb}
 use lib.ListN.{length, getD, take}
 use Rattle.std.specs.shelf.Lists.{All, kept-by}
 use Rattle.std.specs.declared.option.Option.{Option}
 use Rattle.std.specs.declared.option.Option.the-variants.{Some, None}
 use Rattle.std.proofs.shelf.Elements.{all-append, all-map, all-weaker, all-getD, kept-by-append}
-use Rattle.std.proofs.shelf.Lists.{length-map}
 use Rattle.std.proofs.shelf.Tests.{cases-bool}
 use Rattle.std.proofs.shelf.Ways.{tells}
 use Rattle.entry.specs.declared.Entry.{Entry}
 use Rattle.entry.specs.Lists.{Rising}
-use Rattle.entry.proofs.Filters.{kept-all, kept-none}
 use Rattle.wire.specs.declared.record.Record.{Record}
-use Rattle.leases.specs.Stretches.{end, holder-of, Spaced}
+use Rattle.leases.specs.Stretches.{end, Spaced}
 use Rattle.book.specs.declared.part.Part.{Part}
 use Rattle.book.specs.declared.part.Part.the-variants.{Names, Leases, Events}
 use Rattle.book.specs.Books.{BookView, look}

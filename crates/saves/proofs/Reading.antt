@@ -1,5 +1,5 @@
 -- The records of a load, read one after another.
-use Prim.Native.Nat.{ℕ, _+_, _-_, _*_, _/_, _%_, _≤_, _<_}
+use Prim.Native.Nat.{ℕ, _+_, _-_, _*_, _/_, _≤_, _<_}
 use mathlib.Core.Path.{_≡_, refl, sym, ap, subst, _∙_}
 use mathlib.Core.List.{List, [], _∷_, _++_}
 use native.Mathlib.Omega.{arith}
@@ -14,7 +14,6 @@ use Rattle.wire.specs.declared.command.Command.{Command}
 use Rattle.wire.specs.Commands.{fields}
 use Rattle.book.specs.Books.{BookView, Standing}
 use Rattle.book.specs.Runs.{Turn, piece}
-use Rattle.saves.specs.declared.load.Loaded.{Loaded}
 use Rattle.saves.specs.Loads.{Took, Turned, Takes, start, more, Takes-all}
 
 -- n records have been read, and the rest is to come

@@ -1,12 +1,10 @@
 -- A load of a save takes every record, and gives the same entries.
-use Prim.Native.Nat.{ℕ, zero, suc, _+_, _*_, _/_, _%_, _^_, _≤_, _<_}
+use Prim.Native.Nat.{ℕ, _+_, _/_, _^_, _≤_, _<_}
 use mathlib.Core.Path.{_≡_, refl, sym, ap, subst, _∙_}
-use mathlib.Core.Logic.{_⊎_, inl, inr, ⊎-elim}
 use mathlib.Core.List.{List, [], _∷_, _++_, map}
-use mathlib.Core.Bool.{Bool, true, false}
+use mathlib.Core.Bool.{true, false}
 use native.Mathlib.Omega.{arith}
-use lib.Dec.{eqb}
-use lib.ListN.{length, getD, take, drop, length-append}
+use lib.ListN.{length, getD, take, length-append}
 use lib.Seq.{take-all}
 use Rattle.std.specs.shelf.Lists.{All, kept-by}
 use Rattle.std.specs.declared.option.Option.{Option}
@@ -16,7 +14,6 @@ use Rattle.std.proofs.shelf.Elements.{all-append, all-map, all-getD, all-weaker
 use Rattle.std.proofs.shelf.Lists.{take-more, length-map}
 use Rattle.std.proofs.shelf.Tests.{both-ways}
 use Rattle.entry.specs.declared.Entry.{Entry}
-use Rattle.entry.specs.Lists.{blank}
 use Rattle.entry.proofs.Orders.{all-parts}
 use Rattle.ordered.specs.declared.calls.Answer.{Answer}
 use Rattle.ordered.specs.declared.refusal.Refusal.{Refusal}
@@ -30,15 +27,15 @@ use Rattle.wire.proofs.Holders.{fields-same}
 use Rattle.leases.specs.Stretches.{Noted, Spaced}
 use Rattle.book.specs.declared.part.Part.{Part}
 use Rattle.book.specs.declared.part.Part.the-variants.{Names, Leases, Events}
-use Rattle.book.specs.Books.{BookView, look, shut, Standing, Did, book-plan}
+use Rattle.book.specs.Books.{BookView, look, shut, Standing, book-plan}
 use Rattle.book.specs.Runs.{Turn, piece}
 use Rattle.saves.specs.declared.load.Loaded.{Loaded}
 use Rattle.saves.specs.declared.load.Refused.{Refused}
-use Rattle.saves.specs.Saves.{form, forms, records, wires, saved}
-use Rattle.saves.specs.Loads.{loadable, in-turn, empty, Took, Turned, unread, out-of-turn, answered, Takes, start, more, Ends, Takes-all, Same-entries, Restored}
+use Rattle.saves.specs.Saves.{form, forms, records, saved}
+use Rattle.saves.specs.Loads.{loadable, in-turn, empty, Turned, unread, out-of-turn, answered, Takes, start, more, Ends, Takes-all, Same-entries, Restored}
 use Rattle.saves.proofs.Wires.{length-wires, piece-wires}
 use Rattle.saves.proofs.Saving.{part-keys, part-few}
-use Rattle.saves.proofs.Ranks.{code-for, rank, rank-of, Short, rank-turn, Before, Climbing, climbing, earlier, of-part, kept-forms, entry-for, entries-again, kept-take}
+use Rattle.saves.proofs.Ranks.{rank, rank-of, rank-turn, Before, Climbing, climbing, earlier, of-part, kept-forms, entry-for, entries-again, kept-take}
 use Rattle.saves.proofs.Accepting.{Proper, within-form, command-for, granted}
 use Rattle.saves.proofs.Settling.{Last-of, nothing, this, Settled, settled, took-records}
 

@@ -1,7 +1,7 @@
 -- A save, part by part.
 use Prim.Native.Nat.{ℕ, _+_, _-_, _*_, _^_, _≤_, _<_}
-use mathlib.Core.Path.{_≡_, refl, sym, ap, subst, _∙_}
-use mathlib.Core.List.{List, [], _∷_, _++_, map, append-assoc}
+use mathlib.Core.Path.{_≡_, sym, ap, _∙_}
+use mathlib.Core.List.{List, [], _∷_, _++_, append-assoc}
 use mathlib.Core.Bool.{false, _||_}
 use native.Mathlib.Omega.{arith}
 use borrow.Rule.Slice.PartMut.{putMid}
@@ -13,13 +13,12 @@ use Rattle.std.proofs.shelf.Lists.{take-more, map-append, length-map}
 use Rattle.std.proofs.shelf.Tests.{or-parts}
 use Rattle.entry.specs.declared.Entry.{Entry}
 use Rattle.entry.specs.Lists.{blank}
-use Rattle.wire.specs.declared.record.Record.{Record}
 use Rattle.wire.specs.Records.{wire}
 use Rattle.book.specs.declared.part.Part.{Part}
 use Rattle.book.specs.declared.part.Part.the-variants.{Names, Leases, Events}
 use Rattle.book.specs.Books.{BookView, look, shut, Standing}
 use Rattle.saves.specs.Saves.{form, forms, records, wires, saved}
-use Rattle.saves.proofs.Wires.{wires-append, wires-push, length-wires, written-more, Placed, placed}
+use Rattle.saves.proofs.Wires.{wires-append, wires-push, length-wires, written-more, placed}
 
 pub length-forms : (p : Part) (xs : List Entry) → length (wires (forms p xs)) ≡ 32 * length xs
 length-forms p xs = length-wires (forms p xs) ∙ ap (λ (n : ℕ). 32 * n) (length-map xs (form p))

@@ -1,5 +1,5 @@
 -- A season, deed by deed.
-use Prim.Native.Nat.{ℕ, _+_, _-_, _*_, _^_, _≤_, _<_, min}
+use Prim.Native.Nat.{ℕ, _+_, _-_, _*_, _≤_, _<_, min}
 use mathlib.Core.Path.{_≡_, refl, sym, ap, subst, _∙_}
 use mathlib.Core.Logic.{_⊎_, ⊎-elim}
 use mathlib.Core.List.{List, [], _∷_, _++_}
@@ -11,7 +11,7 @@ use Rattle.std.proofs.shelf.Tests.{cases-lt}
 use Rattle.ordered.specs.declared.calls.Answer.{Answer}
 use Rattle.book.specs.Books.{BookView}
 use Rattle.book.specs.Serving.{Served}
-use Rattle.book.specs.Runs.{frames, changes, New, From-new, Frames, most-tried}
+use Rattle.book.specs.Runs.{frames, changes}
 use Rattle.book.proofs.Summing.{Adds, adds-none, adds-then, adds-frames, frames-adds, served-adds}
 use Rattle.saves.specs.declared.load.Loaded.{Loaded as Load-answer}
 use Rattle.saves.specs.declared.season.Deed.{Deed}

@@ -6,17 +6,16 @@
 --   few-taken   it has at most 768 records
 --   takes-adds, turned-adds   the frames of the records tried
 use Prim.Native.Nat.{ℕ, _+_, _*_, _^_, _≤_, _<_}
-use mathlib.Core.Path.{_≡_, refl, sym, ap, subst, _∙_}
-use mathlib.Core.Logic.{_⊎_, inl, inr}
-use mathlib.Core.List.{List, [], _∷_, _++_, map, append-nil, append-assoc}
+use mathlib.Core.Path.{_≡_, refl, sym, ap, _∙_}
+use mathlib.Core.List.{List, [], _∷_, _++_, append-nil, append-assoc}
 use mathlib.Core.Bool.{Bool, true, false, not, _||_}
 use native.Mathlib.Omega.{arith}
-use lib.ListN.{length, take, drop, length-append}
+use lib.ListN.{length, take, length-append}
 use lib.Seq.{take-add}
 use Rattle.std.specs.shelf.Lists.{All}
 use Rattle.std.specs.declared.option.Option.{Option}
 use Rattle.std.specs.declared.option.Option.the-variants.{Some, None}
-use Rattle.std.specs.declared.result.Result.the-variants.{Ok, Err}
+use Rattle.std.specs.declared.result.Result.the-variants.{Ok}
 use Rattle.std.proofs.shelf.Elements.{all-push, all-weaker}
 use Rattle.std.proofs.shelf.Lists.{map-append, length-map}
 use Rattle.std.proofs.shelf.Tests.{and-parts}
@@ -28,7 +27,7 @@ use Rattle.ordered.specs.declared.calls.Answer.{Answer}
 use Rattle.ordered.specs.declared.refusal.Refusal.{Refusal}
 use Rattle.wire.specs.declared.record.Record.{Record}
 use Rattle.wire.specs.declared.command.Command.{Command}
-use Rattle.wire.specs.Records.{wire, Within}
+use Rattle.wire.specs.Records.{wire}
 use Rattle.wire.specs.Commands.{fields, changing}
 use Rattle.wire.specs.Reading.{code-of}
 use Rattle.wire.proofs.Codes.{code-spelt}
@@ -46,7 +45,7 @@ use Rattle.saves.specs.Loads.{loadable, in-turn, empty, Took, Turned, unread, 
 use Rattle.saves.proofs.Wires.{wires-push}
 use Rattle.saves.proofs.Saving.{part-few}
 use Rattle.saves.proofs.Ranks.{code-for, rank, rank-of, Short, form-rank, turn-rank}
-use Rattle.saves.proofs.Accepting.{Added, added, part-all}
+use Rattle.saves.proofs.Accepting.{added, part-all}
 
 -- ---- one record more
 put-last : (e : Entry) (xs : List Entry) → Under (e .key) xs → put e xs ≡ xs ++ (e ∷ [])

@@ -4,7 +4,6 @@ ghost use mathlib.Core.Bool.{false};
 ghost use Prim.Native.Nat.{_%_};
 ghost use lib.ListN.{length};
 ghost use Rattle.std.specs.declared.option.Option.the-variants.{None};
-ghost use Rattle.book.specs.Books.{shut as is-shut};
 ghost use Rattle.saves.specs.Saves.{saved};
 ghost use Rattle.saves.specs.Loads.{in-turn, Tried, Takes-all, unready as unready-of, Loads, Restores};
 use book::Ledger;

@@ -1,6 +1,6 @@
 -- Holders with equal numbers are equal, and so are the commands of equal records.
 use Prim.Native.Nat.{ℕ, _<_, _^_}
-use mathlib.Core.Path.{_≡_, refl, ap, subst}
+use mathlib.Core.Path.{_≡_, ap, subst}
 use mathlib.Core.HLevel.{×-prop}
 use native.Mathlib.Bridge.{le-prop}
 use native.Mathlib.Omega.{arith}

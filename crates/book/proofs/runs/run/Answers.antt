@@ -1,9 +1,8 @@
-use Prim.Native.Nat.{ℕ, _+_, _*_, _-_, _≤_, min}
+use Prim.Native.Nat.{ℕ, _+_, _*_, _-_, _≤_}
 use mathlib.Core.Path.{_≡_, ap, subst, _∙_}
 use mathlib.Core.List.{List}
 use native.Mathlib.Omega.{arith}
 use lib.ListN.{length, take, drop}
-use Rattle.book.specs.Serving.{Answered}
 use Rattle.book.specs.Runs.{piece}
 use Rattle.book.proofs.Running.{Running, running-start, running-more, ran, part-is}
 use Rattle.book.proofs.runs.run.Needs as need

@@ -1,5 +1,5 @@
-use mathlib.Core.Path.{_≡_, refl, sym, _∙_}
-use Rattle.book.specs.Serving.{turned, unread, obeyed}
+use mathlib.Core.Path.{refl, sym, _∙_}
+use Rattle.book.specs.Serving.{unread, obeyed}
 use Rattle.book.proofs.runs.serve.Needs as need
 
 pub returns-in-Ok : need.returns-in-Ok

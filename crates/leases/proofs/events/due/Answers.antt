@@ -1,7 +1,4 @@
-use mathlib.Core.Path.{_≡_, sym, subst, _∙_}
 use native.Mathlib.Omega.{arith}
-use Rattle.leases.specs.Plans.{Planned}
-use Rattle.leases.specs.Commands.{due-plan}
 use Rattle.leases.proofs.Carrying.{due-none, due-later, due-taken}
 use Rattle.leases.proofs.events.due.Needs as need
 

@@ -1,8 +1,6 @@
 use Prim.Native.Nat.{_<_, _≤_, _^_}
-use mathlib.Core.Path.{_≡_, sym, ap, subst, _∙_}
 use native.Mathlib.Omega.{arith}
 use lib.ListN.{length}
-use Rattle.entry.specs.declared.Entry.{Entry}
 use Rattle.leases.proofs.Deciding.{Free}
 use Rattle.leases.proofs.Carrying.{lease-full, lease-spaced, found-small, lease-shared, free-none, free-short, lease-granted}
 use Rattle.leases.proofs.stretches.lease.Needs as need

@@ -1,5 +1,4 @@
-use mathlib.Core.Path.{_≡_, sym, ap, _∙_}
-use native.Mathlib.Omega.{arith}
+use mathlib.Core.Path.{sym, _∙_}
 use Rattle.leases.proofs.Carrying.{release-spaced, release-absent, release-other, release-done}
 use Rattle.leases.proofs.stretches.release.Needs as need
 

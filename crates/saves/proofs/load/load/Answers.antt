@@ -1,8 +1,6 @@
-use mathlib.Core.Path.{_≡_, sym, ap, _∙_}
+use mathlib.Core.Path.{_≡_, sym}
 use native.Mathlib.Omega.{arith}
 use Prim.Native.Nat.{ℕ}
-use lib.ListN.{length}
-use Rattle.std.specs.declared.option.Option.the-variants.{Some, None}
 use Rattle.saves.proofs.Loading.{whole-load, whole-restores, taken-load, taken-restores, saved-again}
 use Rattle.saves.proofs.load.load.Needs as need
 

@@ -1,11 +1,8 @@
-use Prim.Native.Nat.{ℕ, _+_, _*_, _<_, _≤_}
-use mathlib.Core.Path.{_≡_, refl, sym, ap, subst, _∙_}
-use mathlib.Core.List.{List, _++_}
+use mathlib.Core.Path.{_≡_, refl, ap, _∙_}
 use native.Mathlib.Omega.{arith}
 use lib.ListN.{length}
 use Rattle.std.specs.Parts.{chunks-exact-rest, chunks-exact-size, enumerate-source, enumerate-count}
-use Rattle.std.specs.declared.option.Option.the-variants.{Some, None}
-use Rattle.saves.proofs.Reading.{Reading, part-is, reading-more, all-read, some-left, taking-start, taking-more, taken-whole, taken-part}
+use Rattle.saves.proofs.Reading.{part-is, reading-more, all-read, some-left, taking-start, taking-more, taken-whole, taken-part}
 use Rattle.saves.proofs.load.take_all.Needs as need
 
 pub loop-number-holds : need.loop-number-holds

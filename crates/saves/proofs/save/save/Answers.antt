@@ -1,10 +1,9 @@
-use Prim.Native.Nat.{ℕ, _+_, _*_, _<_, _≤_}
+use Prim.Native.Nat.{ℕ, _+_, _<_, _≤_}
 use mathlib.Core.Path.{_≡_, refl, sym, ap, _∙_}
-use mathlib.Core.List.{List, _++_}
+use mathlib.Core.List.{_++_}
 use native.Mathlib.Omega.{arith}
 use lib.ListN.{length, drop}
 use Rattle.std.specs.declared.result.Result.the-variants.{Ok}
-use Rattle.ordered.specs.declared.refusal.Refusal.{Refusal}
 use Rattle.saves.specs.Saves.{saved, too-long, kept}
 use Rattle.saves.proofs.Saving.{length-saved, whole}
 use Rattle.saves.proofs.save.save.Needs as need

@@ -1,15 +1,12 @@
-use Prim.Native.Nat.{ℕ, _+_, _*_, _-_, _≤_, _^_, _<_}
-use mathlib.Core.Path.{_≡_, refl, sym, ap, _∙_}
-use mathlib.Core.List.{List}
+use Prim.Native.Nat.{_+_, _*_, _-_, _^_, _<_}
+use mathlib.Core.Path.{ap, _∙_}
 use native.Mathlib.Omega.{arith}
-use lib.ListN.{length, getD, take, drop, take-append-drop}
-use lib.Seq.{take-all}
 use Rattle.std.proofs.shelf.Elements.{all-getD}
 use Rattle.entry.specs.declared.Entry.{Entry}
 use Rattle.entry.specs.Lists.{blank}
 use Rattle.wire.specs.Records.{wire}
-use Rattle.saves.specs.Saves.{form, forms, wires}
-use Rattle.saves.proofs.Saving.{Writing, writing-start, writing-more, writing-end}
+use Rattle.saves.specs.Saves.{form}
+use Rattle.saves.proofs.Saving.{writing-start, writing-more, writing-end}
 use Rattle.saves.proofs.save.write.Needs as need
 
 pub form-requires : need.form-requires

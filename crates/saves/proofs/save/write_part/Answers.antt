@@ -1,11 +1,8 @@
-use Prim.Native.Nat.{ℕ, _+_, _*_, _-_, _≤_, _^_, _<_}
-use mathlib.Core.Path.{_≡_, sym, ap, subst, _∙_}
-use mathlib.Core.List.{List}
+use Prim.Native.Nat.{ℕ, _+_, _*_, _-_, _≤_}
+use mathlib.Core.Path.{ap}
 use native.Mathlib.Omega.{arith}
 use borrow.Author.Needs.{needs}
-use lib.ListN.{length, take}
-use Rattle.std.specs.shelf.Lists.{All}
-use Rattle.entry.specs.declared.Entry.{Entry}
+use lib.ListN.{take}
 use Rattle.book.specs.Books.{look}
 use Rattle.saves.proofs.Saving.{front-is, part-keys, part-few, part-written}
 use Rattle.saves.proofs.save.write_part.Needs as need

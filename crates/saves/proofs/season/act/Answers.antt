@@ -1,7 +1,5 @@
-use mathlib.Core.Path.{_≡_, refl, sym, ap, subst, _∙_}
-use Rattle.book.specs.Runs.{frames, changes}
+use mathlib.Core.Path.{sym, subst}
 use Rattle.saves.specs.declared.season.Deed.{Deed}
-use Rattle.saves.specs.declared.season.Deed.the-variants.{Command, Load}
 use Rattle.saves.specs.declared.season.Outcome.the-variants.{Answered, Loaded}
 use Rattle.saves.specs.Seasons.{Acts}
 use Rattle.saves.proofs.Seasons.{acts-command, acts-load}

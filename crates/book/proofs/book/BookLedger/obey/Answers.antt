@@ -1,10 +1,10 @@
-use mathlib.Core.Path.{_≡_, refl, sym, _∙_}
+use mathlib.Core.Path.{refl, sym, _∙_}
 use native.Mathlib.Omega.{arith}
 use Rattle.ordered.specs.declared.calls.Call.the-variants.{Add, Remove, Find, Next}
 use Rattle.wire.specs.declared.command.Command.the-variants.{AddName, RemoveName, FindName, NextName, Lease, Release, Who, AddEvent, RemoveEvent, Due}
 use Rattle.leases.proofs.Planning.{one-call}
 use Rattle.leases.proofs.Carrying.{seven}
-use Rattle.book.specs.Books.{BookView, view-of, Standing}
+use Rattle.book.specs.Books.{view-of, Standing}
 use Rattle.book.proofs.Obeying.{refused-shut, refused-early, moved, names-bounded, leases-bounded, events-bounded}
 use Rattle.book.proofs.book.BookLedger.obey.Given as given
 use Rattle.book.proofs.book.BookLedger.obey.Needs as need

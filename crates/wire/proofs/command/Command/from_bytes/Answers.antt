@@ -1,7 +1,5 @@
 use mathlib.Core.Path.{_≡_, sym, ap, subst, _∙_}
 use Rattle.std.specs.declared.result.Result.the-variants.{Ok}
-use Rattle.ordered.specs.declared.refusal.Refusal.{Refusal}
-use Rattle.wire.specs.declared.command.Command.{Command}
 use Rattle.wire.specs.Records.{wire, Within}
 use Rattle.wire.specs.Commands.{fields}
 use Rattle.wire.specs.Reading.{Spells}
