@@ -3,13 +3,16 @@ pub mod Beside
 pub mod Enter
 pub mod Finds
 pub mod Fresh
+pub mod Lawful
 pub mod Lists
 pub mod Merges
 pub mod Middle
 pub mod Near
 pub mod Opened
 pub mod Parts
+pub mod Placed
 pub mod Quiet
 pub mod Ranges
+pub mod Running
 pub mod Spans
 pub mod Splits
