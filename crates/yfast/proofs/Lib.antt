@@ -16,3 +16,5 @@ pub mod Ranges
 pub mod Running
 pub mod Spans
 pub mod Splits
+pub mod Removes
+pub mod Leave

@@ -1,5 +1,6 @@
 pub mod Answers
 pub mod Changing
+pub mod Leaving
 pub mod Making
 pub mod Near
 pub mod Runs

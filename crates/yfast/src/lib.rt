@@ -13,3 +13,4 @@ mod next;
 mod range;
 mod rebuild;
 mod rebuilt;
+mod remove;

@@ -38,7 +38,8 @@ returns-in-Some g c =
     record {
       sound = c .pre;
       does = subst (λ r. Does (i .shut) w (i .limit) (state-of f tally i) (Range a b) ps (answer-with ps r) (state-of f tally i)) (sym (c .refused .ensures)) does;
-      inside = refl; room = refl;
+      inside = refl;
+      room = refl;
     }
 
 pub returns-then-number-places : need.returns-then-number-places
@@ -66,7 +67,8 @@ returns-then-number-places g c =
     record {
       sound = sound-kept w f (g .D·Dictionary .pairs e) room (g .D·Dictionary .room e) tally n i (c .locate-at .ensures .pairs) (c .locate-at .ensures .room) (c .pre);
       does = open-does w f (g .D·Dictionary .pairs e) tally n i (Range a b) ps _ (answer-with ps (c .refused-then-number-places .result)) (o .0) (c .locate-at .ensures .pairs) (ap (answer-with ps) (c .refused-then-number-places .ensures)) t;
-      inside = refl; room = c .locate-at .ensures .room;
+      inside = refl;
+      room = c .locate-at .ensures .room;
     }
 
 pub cast-result : need.cast-result
@@ -104,5 +106,6 @@ returns g c =
     record {
       sound = sound-kept w f (g .D·Dictionary .pairs e) room (g .D·Dictionary .room e) tally n i (c .locate-at .ensures .pairs) (c .locate-at .ensures .room) (c .pre);
       does = open-does w f (g .D·Dictionary .pairs e) tally n i (Range a b) ps x x (o .0) (c .locate-at .ensures .pairs) refl t;
-      inside = refl; room = c .locate-at .ensures .room;
+      inside = refl;
+      room = c .locate-at .ensures .room;
     }
