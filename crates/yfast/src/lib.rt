@@ -4,13 +4,15 @@
 // key's bucket in few frames; the entries themselves are in balanced trees, one a bucket, in one pool.
 mod add;
 mod answers;
+mod call;
 mod find;
 pub mod index;
 mod last;
 mod list;
-mod make;
+pub mod make;
 mod next;
 mod range;
 mod rebuild;
 mod rebuilt;
 mod remove;
+pub mod run;

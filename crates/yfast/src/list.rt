@@ -11,19 +11,19 @@ use entry::Entry;
 use key::Key;
 
 impl<K: Key, D: Dictionary> YFast<K, D> {
-    pub(crate) fn is_shut(&self) -> bool
+    pub fn is_shut(&self) -> bool
         ensures { λ r. ⌜ r ≡ now (self .entry) .inside .shut ⌝ }
     {
         self.inside.shut
     }
 
-    pub(crate) fn limit(&self) -> usize
+    pub fn limit(&self) -> usize
         ensures { λ r. ⌜ r ≡ now (self .entry) .inside .limit ⌝ }
     {
         self.inside.limit as usize
     }
 
-    pub(crate) fn len(&self) -> usize
+    pub fn len(&self) -> usize
         requires { ⌜ Sound (K·Key .width) (D·Dictionary .pairs (now self .dictionary)) (D·Dictionary .room (now self .dictionary)) (D·Dictionary .frames (now self .dictionary)) (now self .inside) ⌝ }
         ensures { λ r. ⌜ r ≡ length (kept-in (now (self .entry) .inside)) ⌝ }
     {
@@ -35,7 +35,7 @@ impl<K: Key, D: Dictionary> YFast<K, D> {
     }
 
     // Writes all entries in rising order into the first places; those after them stay.
-    pub(crate) fn list(&self, places: &mut [Entry])
+    pub fn list(&self, places: &mut [Entry])
         requires sound { ⌜ Sound (K·Key .width) (D·Dictionary .pairs (now self .dictionary)) (D·Dictionary .room (now self .dictionary)) (D·Dictionary .frames (now self .dictionary)) (now self .inside) ⌝ }
         requires room { ⌜ length (kept-in (now self .inside)) ≤ length (now places) ⌝ }
         ensures { λ _. ⌜ now (places .exit) ≡ over (kept-in (now (self .entry) .inside)) (now (places .entry)) ⌝ }
