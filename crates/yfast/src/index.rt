@@ -7,6 +7,7 @@ use std::marker::PhantomData;
 
 // The buckets with their trees, how many entries may stand and how many do, and whether the index is
 // shut. A shut index has no entry and lets its dictionary be.
+#[derive(Drop)]
 pub struct Inside {
     pub(crate) table: Table,
     pub(crate) pool: Pool,
@@ -15,6 +16,7 @@ pub struct Inside {
     pub(crate) shut: bool,
 }
 
+#[derive(Drop)]
 pub struct YFast<K: Key, D: Dictionary> {
     pub(crate) kind: PhantomData<K>,
     pub(crate) dictionary: D,
