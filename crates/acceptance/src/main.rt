@@ -1,6 +1,8 @@
 // Accepts memory modules as a test driver would: fills each, reads it back, replaces, sees the
 // refusals, drops every pair, and prints each stage and a verdict. The stages know only what a
 // dictionary means.
+#![tactic(auto)]
+
 mod stages;
 
 use cuckoo::table::Cuckoo;

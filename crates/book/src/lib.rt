@@ -3,6 +3,8 @@
 //
 // What a book means to its callers is the trait `Ledger`; all that is built on a book rests on that trait
 // alone, and never sees an index.
+#![tactic(auto)]
+
 pub mod book;
 pub mod ledger;
 pub mod part;

@@ -4,6 +4,8 @@
 // through it, linked both ways: there is no sentinel and no case for the last. The free records are
 // chained through the same `next`. Each number is in the ring or in that chain, once (`Standing`).
 // The table knows representatives, sizes and the roots of trees as numbers, and asks nothing of them.
+#![tactic(auto)]
+
 pub mod change;
 pub mod make;
 pub mod read;

@@ -3,6 +3,8 @@
 //
 // None of these calls asks anything of its caller. A module that does not fit gives a shut index, and a book
 // with a shut index refuses everything.
+#![tactic(auto)]
+
 ghost use Rattle.std.specs.Prelude.{length};
 ghost use Rattle.inside.specs.Whole.{Sound};
 ghost use Rattle.inside.specs.Views.{seen_as};

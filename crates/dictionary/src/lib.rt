@@ -4,6 +4,8 @@
 // A dictionary holds pairs: a node, a number above 0, with two links, low and high. Each get, put
 // and drop is one frame on the bus and raises the tally by one, up to its top. The questions for the
 // pairs held, the capacity and the tally are free.
+#![tactic(auto)]
+
 ghost use Rattle.std.specs.Prelude.{◌≡◌, ℕ, ◌^◌, ◌<◌, ◌≤◌, true, List, [], length, is_some, is_ok, if◌then◌else◌, Some, None};
 ghost use Rattle.dictionary.specs.Pairs.{Pairs, with_pair, no_pairs, among, apart, raised, accepts, one_more, one_less};
 

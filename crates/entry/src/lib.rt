@@ -1,4 +1,5 @@
 // What an index holds: a key, by its bits, and a note.
+#![tactic(auto)]
 
 #[derive(Clone, Copy)]
 pub struct Entry {

@@ -1,5 +1,7 @@
 // What an index keeps beside its dictionary: definitions and lemmas only, of it and of what a call
 // makes of it. The fields are public for the crates that work on it; an index keeps its own private.
+#![tactic(auto)]
+
 use avl::Pool;
 use buckets::Table;
 use ordered::Rebuilding;

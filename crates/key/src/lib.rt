@@ -2,6 +2,8 @@
 //
 // The width is the associated constant from which the sizes of buckets, the bound of a level search
 // and the pairs an index needs are worked out.
+#![tactic(auto)]
+
 ghost use Rattle.std.specs.Prelude.{◌≡◌, ℕ, ◌^◌, ◌<◌, ◌≤◌, Bool, true, is_some, Some, Option as Maybe, nat_lt};
 
 pub mod kinds;

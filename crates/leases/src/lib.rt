@@ -4,6 +4,8 @@
 // where it ends, times 2^32, and its holder. No two standing leases share a station: a lease is entered
 // only where it shares none, and the one `last` at its end decides that, since of the leases that start
 // at or below that end only the highest can reach so far.
+#![tactic(auto)]
+
 pub mod answers;
 pub mod checks;
 pub mod events;

@@ -4,6 +4,8 @@
 // of some keys holds the root, and with a node each one on the way to it: so the deepest node of a
 // key that has a pair is found by halving the levels, and the frames are one for the root and one
 // for each halving.
+#![tactic(auto)]
+
 ghost use Rattle.std.specs.Prelude.{◌≡◌, ◌+◌, ◌^◌, ◌<◌, ◌≤◌, true, length, Some};
 ghost use Rattle.key.specs.Widths.{most};
 ghost use Rattle.dictionary.specs.Pairs.{raised};

@@ -1,5 +1,7 @@
 // The words of an ordered index: its calls and answers, the refusals with their numbers, and the
 // sorted list that every index answers as.
+#![tactic(auto)]
+
 pub mod calls;
 pub mod index;
 pub mod refusal;

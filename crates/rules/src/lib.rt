@@ -1,5 +1,7 @@
 // The rules of the buckets, and what follows from them over every run of calls. A lemma crate: each
 // function names a law, and the code of an index rests on the same definitions.
+#![tactic(auto)]
+
 ghost use Rattle.rules.specs.Laws.{BucketsKeep, RebuildingsRare, FramesBounded, CallsBounded, NewRuns, AsAList, AsOwnList, SearchFinds};
 ghost use Rattle.rules.specs.Tracks.{Tracks};
 

@@ -1,5 +1,7 @@
 // What the hash tables share: slots, of which each holds one pair or is empty, and the tally. What a
 // row of slots means, and what a written slot changes in it, is proved here for rows of any length.
+#![tactic(auto)]
+
 ghost use Rattle.std.specs.Prelude.{◌≡◌};
 ghost use Rattle.dictionary.specs.Pairs.{raised};
 

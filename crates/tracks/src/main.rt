@@ -1,5 +1,7 @@
 // The cases worked out on the test track, run on both makes of modules: zones added to a split and
 // removed to a merge. Every line shows what an index answered.
+#![tactic(auto)]
+
 use cuckoo::table::Cuckoo;
 use dictionary::Dictionary;
 use entry::Entry;

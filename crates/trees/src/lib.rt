@@ -4,6 +4,7 @@
 // children by their indices. At each place the heights of the two subtrees differ by at most 1, a node
 // stores the height of its subtree, keys rise from left to right, and no index stands twice.
 // Every call here walks down recursively, and the stored height falls with each step.
+#![tactic(auto)]
 
 mod above;
 mod below;

@@ -4,6 +4,8 @@
 // `Sound` ties the two: for every node the dictionary has the pair that the table's order asks for,
 // and no other. Making gives it, and every call here keeps it. Sizes and roots of the buckets are
 // the caller's.
+#![tactic(auto)]
+
 ghost use Rattle.std.specs.Prelude.{◌≡◌, ◌+◌, ◌*◌, ◌^◌, ◌<◌, ◌≤◌, true, false, length};
 ghost use Rattle.key.specs.Widths.{most};
 ghost use Rattle.dictionary.specs.Pairs.{no_pairs, among, raised};

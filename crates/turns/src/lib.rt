@@ -6,5 +6,7 @@
 // with it, or back, level by level. A node's pair alters only where the bucket comes first or last
 // under the node, so that there is one get for each level, and one put or drop more for each of
 // those.
+#![tactic(auto)]
+
 pub mod set_up;
 pub mod take_away;

@@ -5,6 +5,8 @@
 //
 //   byte     0      1         2, 3     4, 5     6            7      8 to 15   16 to 23   24 to 31
 //   answer   code   refusal   frames   visits   rebuilding   zero   key       note       zero
+#![tactic(auto)]
+
 pub mod bytes;
 pub mod command;
 pub mod holder;

@@ -3,6 +3,8 @@
 //
 // These functions ask of their caller that the levels, the trees and the buckets tie in. An index
 // keeps its inside to itself and sees to that, so none of its callers meets these conditions.
+#![tactic(auto)]
+
 pub mod enter;
 pub mod leave;
 pub mod near;

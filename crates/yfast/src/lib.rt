@@ -2,6 +2,8 @@
 //
 // Representatives of buckets are laid out in the dictionary, level by level, so that a search finds a
 // key's bucket in few frames; the entries themselves are in balanced trees, one a bucket, in one pool.
+#![tactic(auto)]
+
 mod add;
 mod answers;
 mod call;
