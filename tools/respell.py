@@ -4,7 +4,7 @@
 usage: python3 tools/respell.py        at the top of the repository, once, after the spelling of the language itself was turned
 
 Definitions, lemmas, fields and local names of .antt files, and where contracts in .rt files cite them: a name with dashes
-becomes snake case, and a type's, a predicate's or an alias's name (one that begins with a capital) camel case. Names that a file
+or in lower camel case becomes snake case, and a type's, a predicate's or an alias's name (one that begins with a capital) camel case. Names that a file
 takes from the standard library stay, and so do names that the checker makes, but for the names of the source in them, which get
 the underscores that they have there. Functions, types and strings of src/ keep their names, and their comments stay too.
 """
@@ -17,6 +17,7 @@ import sys
 
 WORD = re.compile(r"[A-Za-z0-9_'₀-₉][A-Za-z0-9_'₀-₉\-]*")
 DECLARED = re.compile(r"\s*(?:pub )?(?:abbrev |unfoldable |opaque )*(?:pub )?(?:record |data )?(?:pub )?([A-Za-z0-9_']*-[A-Za-z0-9_'\-]*)\s*(:|\()(.*)")
+CAMEL = re.compile(r"\s*(?:pub )?(?:abbrev |unfoldable |opaque )*(?:pub )?([a-z][a-z0-9_']*[A-Z][A-Za-z0-9_']*)\s*:(.*)")
 LIBRARY = re.compile(r"\s*(?:ghost )?(?:pub )?use (?:Rattle\.(?:std|core|std_alloc)|native|mathlib|Prim|lib)\b[\w.'\-]*\.\{(.*)\}")
 MADE = re.compile(r"\s*(?:goal|given)\.")
 # names of the standard library's functions, as made names have them
@@ -60,6 +61,9 @@ def own_names():
             m = DECLARED.match(line)
             if m and not MADE.match(m.group(3)) and not m.group(1).startswith(("invariant-", "decreases-", "returns-", "overflow-", "loop-", "bounds-")):
                 own.add(m.group(1))
+            m = CAMEL.match(line)
+            if m and not MADE.match(m.group(2)):
+                own.add(m.group(1))
         own.update(re.findall(r" as ([A-Za-z][A-Za-z0-9_']*-[A-Za-z0-9_'\-]*)", text))
         if not is_walk(path):
             body = "\n".join(l for l in without_comments(text, "--").splitlines() if not re.match(r"\s*(?:pub )?use ", l))
@@ -71,7 +75,7 @@ def own_names():
 
 def respelled(name):
     if not name[0].isupper():
-        return name.replace("-", "_")
+        return re.sub(r"(?<=[a-z0-9'])[A-Z]", lambda m: "_" + m.group(0).lower(), name.replace("-", "_"))
     return "".join(part[:1].upper() + part[1:] for part in name.split("-"))
 
 
@@ -108,7 +112,7 @@ def turn(path, own, sources):
 
         def put(m):
             w = m.group(0)
-            if "-" not in w or w in taken or not re.search("[A-Za-z]", w):
+            if w in taken or not re.search("[A-Za-z]", w) or ("-" not in w and w not in own):
                 return w
             before = code[: m.start()]
             after_c = re.search(r"(?:\bc|\bgoal|\bgiven|\bl|\.at\.[\w'.\-]+)\.$", before)

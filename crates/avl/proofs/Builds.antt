@@ -16,7 +16,7 @@ use Rattle.entry.proofs.Orders.{rising_parts}
 use Rattle.trees.specs.declared.Node.{Node}
 use Rattle.trees.specs.Counts.{single, times}
 use Rattle.trees.specs.Trees.{tall, entries, places}
-use Rattle.trees.specs.Pools.{entry_in, entry_at, Standing, treeAt, entries_at, places_at, Kept}
+use Rattle.trees.specs.Pools.{entry_in, entry_at, Standing, tree_at, entries_at, places_at, Kept}
 use Rattle.trees.proofs.Counts.{single_same, times_append, times_all, distinct_few}
 use Rattle.trees.proofs.Pools.{inside, standing_none, end_is, kept_none, kept_then, entries_are}
 use Rattle.avl.specs.Turns.{hung, Loose, Level}
@@ -89,7 +89,7 @@ halves ps fs back one rest a b e half =
     let long : length ps ≡ length fs + 1 + length rest = omega (arith, ap length is, length-append fs (get_or one 0 0 ∷ rest)) in
     record { is = is; less = omega arith; more = omega arith; long = long }
 
-pub built_none : (ns : List Node) (ps : List ℕ) → length ns ≤ 512 → length ps ≡ 0 → Built ns ns ps 65535 (treeAt ns 65535)
+pub built_none : (ns : List Node) (ps : List ℕ) → length ns ≤ 512 → length ps ≡ 0 → Built ns ns ps 65535 (tree_at ns 65535)
 built_none ns ps few e = rw (nil_from_length ps e) (record {
   stands = standing_none ns few;
   holds = ap entries (end_is ns 65535 refl);
@@ -109,9 +109,9 @@ map_kept ns ms qs k (p ∷ ps) out = λ d. entry_in (k.same p (out p (omega (ari
 pub order_tree : (ns : List Node) (root : ℕ) → Standing ns root → Order ns (places_at ns root)
 order_tree ns root s = record {
   few = s.few;
-  inside = λ m z. inside ns (treeAt ns root) m s.lies z;
+  inside = λ m z. inside ns (tree_at ns root) m s.lies z;
   apart = s.apart;
-  rising = subst Rising (entries_are ns (treeAt ns root) s.lies) s.rising;
+  rising = subst Rising (entries_are ns (tree_at ns root) s.lies) s.rising;
 }
 
 pub order_parts : (ns : List Node) (xs ys : List ℕ) → Order ns (xs ++ ys) → Order ns xs × Order ns ys
@@ -151,7 +151,7 @@ module _ (ns : List Node) (ps fs : List ℕ) (m : ℕ) (rs : List ℕ) (or : Ord
   pub order_left : Order ns fs
   order_left = parts.0
 
-  module _ (ms : List Node) (left : ℕ) (bl : Built ns ms fs left (treeAt ms left)) where
+  module _ (ms : List Node) (left : ℕ) (bl : Built ns ms fs left (tree_at ms left)) where
     rest_same : map (entry_at ms) rs ≡ map (entry_at ns) rs
     rest_same = map_kept ns ms fs bl.kept rs (λ j z. omega (arith, counts j, or.apart j))
 
@@ -161,7 +161,7 @@ module _ (ns : List Node) (ps fs : List ℕ) (m : ℕ) (rs : List ℕ) (or : Ord
     pub order_right : Order ms rs
     order_right = order_kept ns ms fs rs bl.kept (λ j. omega (arith, counts j, or.apart j)) (order_parts ns (m ∷ []) rs parts.1).1
 
-    module _ (xs : List Node) (right : ℕ) (br : Built ms xs rs right (treeAt xs right)) where
+    module _ (xs : List Node) (right : ℕ) (br : Built ms xs rs right (tree_at xs right)) where
       within : m < length ms
       within = omega (arith, or.inside m (omega (arith, counts m, single_same m m refl)), bl.kept.long)
 
@@ -177,29 +177,29 @@ module _ (ns : List Node) (ps fs : List ℕ) (m : ℕ) (rs : List ℕ) (or : Ord
       loose : Loose xs m left right
       loose = mend_right ms xs m right left rs br.kept br.stands bl.stands within br.spots out (subst Rising (sym holds_is) or.rising)
 
-      left_same : treeAt xs left ≡ treeAt ms left
+      left_same : tree_at xs left ≡ tree_at ms left
       left_same = other_same ms xs m right left rs br.kept br.stands bl.stands within br.spots out
 
       pub build_hook : Hook xs m left right
       build_hook = hang_hook xs m left right loose
 
-      near : (tall (treeAt xs right) ≤ tall (treeAt ms left)) × (tall (treeAt ms left) ≤ 1 + tall (treeAt xs right))
-      near = near_low (length fs) (length rs) (tall (treeAt ms left)) (tall (treeAt xs right)) bl.lowest br.lowest ha.less ha.more
+      near : (tall (tree_at xs right) ≤ tall (tree_at ms left)) × (tall (tree_at ms left) ≤ 1 + tall (tree_at xs right))
+      near = near_low (length fs) (length rs) (tall (tree_at ms left)) (tall (tree_at xs right)) bl.lowest br.lowest ha.less ha.more
 
-      level_m : Level xs (hung xs m left right) m (entry_at ms m) (treeAt ms left) (treeAt xs right) m (treeAt (hung xs m left right) m)
-      level_m = level_right ms xs m right left rs br.kept br.stands bl.stands within br.spots out (hung xs m left right) m (treeAt (hung xs m left right) m)
+      level_m : Level xs (hung xs m left right) m (entry_at ms m) (tree_at ms left) (tree_at xs right) m (tree_at (hung xs m left right) m)
+      level_m = level_right ms xs m right left rs br.kept br.stands bl.stands within br.spots out (hung xs m left right) m (tree_at (hung xs m left right) m)
           (from_hang xs m left right loose (omega (arith, near, ap tall left_same)) (omega (arith, near, ap tall left_same)))
 
-      pub built_join : Built ns (hung xs m left right) ps m (treeAt (hung xs m left right) m)
+      pub built_join : Built ns (hung xs m left right) ps m (tree_at (hung xs m left right) m)
       built_join = record {
         stands = level_m.stands;
         holds = level_m.holds ∙ holds_is;
         spots = λ j. omega (arith, level_m.spots j, counts j, bl.spots j, br.spots j);
         lowest =
-            let h : tall (treeAt (hung xs m left right) m) ≡ 1 + tall (treeAt ms left) = omega (arith, level_m.even (omega (arith, near)) (omega (arith, near)), near) in
-            subst (λ n. Lowest n (tall (treeAt (hung xs m left right) m))) (sym ha.long) (subst (Lowest (length fs + 1 + length rs)) (sym h) (join_low (length fs) (length rs) (tall (treeAt ms left)) bl.lowest ha.less ha.more));
-        kept = kept_then ns xs (hung xs m left right) ps (places (treeAt ms left) ++ m ∷ places (treeAt xs right)) ps
+            let h : tall (tree_at (hung xs m left right) m) ≡ 1 + tall (tree_at ms left) = omega (arith, level_m.even (omega (arith, near)) (omega (arith, near)), near) in
+            subst (λ n. Lowest n (tall (tree_at (hung xs m left right) m))) (sym ha.long) (subst (Lowest (length fs + 1 + length rs)) (sym h) (join_low (length fs) (length rs) (tall (tree_at ms left)) bl.lowest ha.less ha.more));
+        kept = kept_then ns xs (hung xs m left right) ps (places (tree_at ms left) ++ m ∷ places (tree_at xs right)) ps
             (kept_then ns ms xs fs rs ps bl.kept br.kept (λ j z. (omega (arith, z, counts j), omega (arith, z, counts j))))
             level_m.kept
-            (λ j z. (z, omega (arith, z, counts j, bl.spots j, br.spots j, times_append j (places (treeAt ms left)) (m ∷ places (treeAt xs right)))));
+            (λ j z. (z, omega (arith, z, counts j, bl.spots j, br.spots j, times_append j (places (tree_at ms left)) (m ∷ places (tree_at xs right)))));
       }

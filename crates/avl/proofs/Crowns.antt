@@ -3,7 +3,7 @@ use Rattle.std.proofs.Common.{◌≡◌, ℕ, ◌<◌, ◌≤◌, List, ◌∷�
 use Rattle.trees.specs.declared.Node.{Node}
 use Rattle.trees.specs.Counts.{single, times}
 use Rattle.trees.specs.Trees.{Tree, node, places}
-use Rattle.trees.specs.Pools.{nodeAt, entry_in, entry_at, Lies, treeAt}
+use Rattle.trees.specs.Pools.{node_at, entry_in, entry_at, Lies, tree_at}
 use Rattle.trees.proofs.Counts.{single_same, differ, times_append}
 use Rattle.trees.proofs.Pools.{low}
 use Rattle.avl.specs.Turns.{hung, Four, Crowned}
@@ -11,16 +11,16 @@ use Rattle.avl.proofs.Hooks.{Hook, hook, hung_long, hung_other, hung_keeps, hung
 
 module _ (ns : List Node) (x m y a b c d : ℕ) (f : Four ns x m y a b c d) where
   abbrev ta : Tree
-  ta = treeAt ns a
+  ta = tree_at ns a
 
   abbrev tb : Tree
-  tb = treeAt ns b
+  tb = tree_at ns b
 
   abbrev tc : Tree
-  tc = treeAt ns c
+  tc = tree_at ns c
 
   abbrev td : Tree
-  td = treeAt ns d
+  td = tree_at ns d
 
   few : length ns ≤ 512
   few = f.stand.0.few
@@ -78,7 +78,7 @@ module _ (ns : List Node) (x m y a b c d : ℕ) (f : Four ns x m y a b c d) wher
   inside_m : m < length c2
   inside_m = omega (arith, hung_long ns x a b, hung_long c1 y c d, f.inside)
 
-  same_m : nodeAt c2 m ≡ nodeAt ns m
+  same_m : node_at c2 m ≡ node_at ns m
   same_m = hung_other c1 y c d m (differ m y off_m.5) ∙ hung_other ns x a b m (differ m x off_m.4)
 
   pub crown_1 : Hook ns x a b

@@ -9,7 +9,7 @@ use Rattle.std.proofs.lemmas.Bool.{ne_eqb, cond-false}
 use Rattle.trees.specs.declared.Node.{Node}
 use Rattle.trees.specs.Counts.{times}
 use Rattle.trees.specs.Trees.{Tree, leaf, node, top, tall, places}
-use Rattle.trees.specs.Pools.{no_node, nodeAt, entry_at, high, Lies}
+use Rattle.trees.specs.Pools.{no_node, node_at, entry_at, high, Lies}
 use Rattle.trees.proofs.Pools.{lies_kept}
 use Rattle.avl.specs.Turns.{Ready, hung}
 
@@ -26,7 +26,7 @@ ready_top ns (node i e l r) few low h = (λ z. h.0, omega (arith, high_top ns (n
 pub hung_long : (ns : List Node) (i l r : ℕ) → length (hung ns i l r) ≡ length ns
 hung_long ns i l r = length-set ns i _
 
-pub hung_other : (ns : List Node) (i l r x : ℕ) → (x ≡ i → ⊥) → nodeAt (hung ns i l r) x ≡ nodeAt ns x
+pub hung_other : (ns : List Node) (i l r x : ℕ) → (x ≡ i → ⊥) → node_at (hung ns i l r) x ≡ node_at ns x
 hung_other ns i l r x ne = get_or-set_other ns i x _ no_node ne
 
 pub hung_keeps : (ns : List Node) (i l r : ℕ) (t : Tree) → times i (places t) ≡ 0 → Lies ns t → Lies (hung ns i l r) t
@@ -41,7 +41,7 @@ module _ (ns : List Node) (i a b : ℕ) (l r : Tree) (few : length ns ≤ 512) (
   pub hung_lies : times i (places l) ≡ 0 → times i (places r) ≡ 0 → Lies (hung ns i a b) (node i (entry_at ns i) l r)
   hung_lies ol or = (
     omega (arith, hung_long ns i a b, lt),
-    get_or-set_same ns i _ no_node lt ∙ (λ d. record { key = (nodeAt ns i).key; note = (nodeAt ns i).note; left = sym el d; right = sym er d; height = 1 + max (low_is d) (high_is d) }),
+    get_or-set_same ns i _ no_node lt ∙ (λ d. record { key = (node_at ns i).key; note = (node_at ns i).note; left = sym el d; right = sym er d; height = 1 + max (low_is d) (high_is d) }),
     hung_keeps ns i a b l ol hl,
     hung_keeps ns i a b r or hr,
   )

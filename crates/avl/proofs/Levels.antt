@@ -11,7 +11,7 @@ use Rattle.entry.specs.Lists.{Rising}
 use Rattle.trees.specs.declared.Node.{Node}
 use Rattle.trees.specs.Counts.{single, times}
 use Rattle.trees.specs.Trees.{Tree, node, tall, places}
-use Rattle.trees.specs.Pools.{nodeAt, entry_at, high, Standing, treeAt, left_at, rightAt, entries_at, places_at}
+use Rattle.trees.specs.Pools.{node_at, entry_at, high, Standing, tree_at, left_at, right_at, entries_at, places_at}
 use Rattle.trees.proofs.Counts.{single_same, differ, times_append}
 use Rattle.trees.proofs.Pools.{Opened, opened, end_is, tree_is, low, high_is}
 use Rattle.trees.proofs.Looks.{entries_open, count_open, tall_open}
@@ -20,12 +20,12 @@ use Rattle.avl.proofs.Hooks.{Hook, hook, hung_long, hung_other, hung_lies}
 
 -- the indices of a node's children
 abbrev left_of : List Node → ℕ → ℕ
-left_of ns i = (nodeAt ns i).left
+left_of ns i = (node_at ns i).left
 
 abbrev right_of : List Node → ℕ → ℕ
-right_of ns i = (nodeAt ns i).right
+right_of ns i = (node_at ns i).right
 
-pub rooted : (ns : List Node) (root : ℕ) → 0 < tall (treeAt ns root) → root ≡ 65535 → ⊥
+pub rooted : (ns : List Node) (root : ℕ) → 0 < tall (tree_at ns root) → root ≡ 65535 → ⊥
 rooted ns root pos e = omega (arith, ap tall (end_is ns root e))
 
 pub bound : (ns : List Node) (root : ℕ) → Standing ns root → (root ≡ 65535 → ⊥) → root < length ns
@@ -74,14 +74,14 @@ inner_heights low high inner outer c d two is near mid_is mid_near lt = record {
 }
 
 module _ (ns : List Node) (i left right : ℕ) (lo : Loose ns i left right) where
-  from_level : (ms : List Node) (root : ℕ) (u : Tree) → Level ns ms i (entry_at ns i) (treeAt ns left) (treeAt ns right) root u → Level ns ms i (entry_at ns i) (treeAt ns left) (treeAt ns right) root (treeAt ms root)
-  from_level ms root u v = subst (Level ns ms i (entry_at ns i) (treeAt ns left) (treeAt ns right) root) (sym (tree_is ms root u v.stands)) v
+  from_level : (ms : List Node) (root : ℕ) (u : Tree) → Level ns ms i (entry_at ns i) (tree_at ns left) (tree_at ns right) root u → Level ns ms i (entry_at ns i) (tree_at ns left) (tree_at ns right) root (tree_at ms root)
+  from_level ms root u v = subst (Level ns ms i (entry_at ns i) (tree_at ns left) (tree_at ns right) root) (sym (tree_is ms root u v.stands)) v
 
   from_crown : (ms : List Node) (x m y a b c d : ℕ) (f : Four ns x m y a b c d) (cr : Crowned ns ms x m y a b c d)
       → (entries_at ns a ++ entry_at ns x ∷ entries_at ns b) ++ entry_at ns m ∷ (entries_at ns c ++ entry_at ns y ∷ entries_at ns d) ≡ entries_at ns left ++ entry_at ns i ∷ entries_at ns right
       → ((j : ℕ) → times j (places_at ns a) + single j x + times j (places_at ns b) + single j m + times j (places_at ns c) + single j y + times j (places_at ns d) ≡ times j (places_at ns left) + single j i + times j (places_at ns right))
-      → Heights (tall (treeAt ns left)) (tall (treeAt ns right)) (tall (treeAt ns a)) (tall (treeAt ns b)) (tall (treeAt ns c)) (tall (treeAt ns d))
-      → Level ns ms i (entry_at ns i) (treeAt ns left) (treeAt ns right) m (treeAt ms m)
+      → Heights (tall (tree_at ns left)) (tall (tree_at ns right)) (tall (tree_at ns a)) (tall (tree_at ns b)) (tall (tree_at ns c)) (tall (tree_at ns d))
+      → Level ns ms i (entry_at ns i) (tree_at ns left) (tree_at ns right) m (tree_at ms m)
   from_crown ms x m y a b c d f cr is counts h = from_level ms m (crowned ns x m y a b c d) (record {
     stands = record {
       lies = cr.lies;
@@ -105,10 +105,10 @@ module _ (ns : List Node) (i left right : ℕ) (lo : Loose ns i left right) wher
       spots : (j : ℕ) → times j (places (crowned ns x m y a b c d)) ≡ times j (places_at ns left) + single j i + times j (places_at ns right)
       spots j = omega (arith, counts j, times_append j (places_at ns a ++ x ∷ places_at ns b) (m ∷ (places_at ns c ++ y ∷ places_at ns d)), times_append j (places_at ns a) (x ∷ places_at ns b), times_append j (places_at ns c) (y ∷ places_at ns d))
 
-  pub from_hang : tall (treeAt ns left) ≤ 1 + tall (treeAt ns right) → tall (treeAt ns right) ≤ 1 + tall (treeAt ns left) → Level ns (hung ns i left right) i (entry_at ns i) (treeAt ns left) (treeAt ns right) i (treeAt (hung ns i left right) i)
-  from_hang p q = from_level (hung ns i left right) i (node i (entry_at ns i) (treeAt ns left) (treeAt ns right)) (record {
+  pub from_hang : tall (tree_at ns left) ≤ 1 + tall (tree_at ns right) → tall (tree_at ns right) ≤ 1 + tall (tree_at ns left) → Level ns (hung ns i left right) i (entry_at ns i) (tree_at ns left) (tree_at ns right) i (tree_at (hung ns i left right) i)
+  from_hang p q = from_level (hung ns i left right) i (node i (entry_at ns i) (tree_at ns left) (tree_at ns right)) (record {
     stands = record {
-      lies = hung_lies ns i left right (treeAt ns left) (treeAt ns right) lo.lower.few lo.inside lo.lower.root_is lo.upper.root_is lo.lower.lies lo.upper.lies
+      lies = hung_lies ns i left right (tree_at ns left) (tree_at ns right) lo.lower.few lo.inside lo.lower.root_is lo.upper.root_is lo.lower.lies lo.upper.lies
           (omega (arith, lo.apart i, single_same i i refl)) (omega (arith, lo.apart i, single_same i i refl));
       root_is = refl;
       balanced = (p, q, lo.lower.balanced, lo.upper.balanced);
@@ -128,15 +128,15 @@ module _ (ns : List Node) (i left right : ℕ) (lo : Loose ns i left right) wher
       spots j = omega (arith, times_append j (places_at ns left) (i ∷ places_at ns right))
 
   pub hang_hook : Hook ns i left right
-  hang_hook = hook ns i left right (treeAt ns left) (treeAt ns right) lo.lower.few lo.inside lo.lower.root_is lo.upper.root_is lo.lower.lies lo.upper.lies
-      (omega (arith, low ns left (treeAt ns left) lo.lower)) (omega (arith, low ns right (treeAt ns right) lo.upper))
+  hang_hook = hook ns i left right (tree_at ns left) (tree_at ns right) lo.lower.few lo.inside lo.lower.root_is lo.upper.root_is lo.lower.lies lo.upper.lies
+      (omega (arith, low ns left (tree_at ns left) lo.lower)) (omega (arith, low ns right (tree_at ns right) lo.upper))
 
-  module _ (two : tall (treeAt ns right) ≡ 2 + tall (treeAt ns left)) where
+  module _ (two : tall (tree_at ns right) ≡ 2 + tall (tree_at ns left)) where
     pub right_open : Opened ns right
     right_open = opened ns right lo.upper (rooted ns right (omega arith))
 
     module _ (higher : high ns (left_of ns right) ≤ high ns (right_of ns right)) where
-      higher_right_outer : tall (left_at ns right) ≤ tall (rightAt ns right)
+      higher_right_outer : tall (left_at ns right) ≤ tall (right_at ns right)
       higher_right_outer = omega (arith, high_is ns (left_of ns right) right_open.left, high_is ns (right_of ns right) right_open.right)
 
       pub right_outer_open : Opened ns (right_of ns right)
@@ -148,7 +148,7 @@ module _ (ns : List Node) (i left right : ℕ) (lo : Loose ns i left right) wher
       pub right_outer_four : Four ns i right (right_of ns right) left (left_of ns right) (left_of ns (right_of ns right)) (right_of ns (right_of ns right))
       right_outer_four = record { inside = (lo.inside, right_open.inside, right_outer_open.inside); stand = (lo.lower, right_open.left, right_outer_open.left, right_outer_open.right); apart = λ j. omega (arith, right_outer_counts j, lo.apart j) }
 
-      pub right_outer : (ms : List Node) → Crowned ns ms i right (right_of ns right) left (left_of ns right) (left_of ns (right_of ns right)) (right_of ns (right_of ns right)) → Level ns ms i (entry_at ns i) (treeAt ns left) (treeAt ns right) right (treeAt ms right)
+      pub right_outer : (ms : List Node) → Crowned ns ms i right (right_of ns right) left (left_of ns right) (left_of ns (right_of ns right)) (right_of ns (right_of ns right)) → Level ns ms i (entry_at ns i) (tree_at ns left) (tree_at ns right) right (tree_at ms right)
       right_outer ms cr = from_crown ms i right (right_of ns right) left (left_of ns right) (left_of ns (right_of ns right)) (right_of ns (right_of ns right)) right_outer_four cr
           (append_assoc (entries_at ns left) (entry_at ns i ∷ entries_at ns (left_of ns right)) (entry_at ns right ∷ (entries_at ns (left_of ns (right_of ns right)) ++ entry_at ns (right_of ns right) ∷ entries_at ns (right_of ns (right_of ns right))))
           ∙ ap (λ z. entries_at ns left ++ entry_at ns i ∷ (entries_at ns (left_of ns right) ++ entry_at ns right ∷ z)) (sym (entries_open ns (right_of ns right) right_outer_open)) ∙ ap (λ z. entries_at ns left ++ entry_at ns i ∷ z) (sym (entries_open ns right right_open)))
@@ -156,7 +156,7 @@ module _ (ns : List Node) (i left right : ℕ) (lo : Loose ns i left right) wher
           (outer_heights _ _ _ _ _ _ two (tall_open ns right right_open) right_open.level (tall_open ns (right_of ns right) right_outer_open) right_outer_open.level higher_right_outer)
 
     module _ (higher : high ns (right_of ns right) < high ns (left_of ns right)) where
-      higher_right_inner : tall (rightAt ns right) < tall (left_at ns right)
+      higher_right_inner : tall (right_at ns right) < tall (left_at ns right)
       higher_right_inner = omega (arith, high_is ns (left_of ns right) right_open.left, high_is ns (right_of ns right) right_open.right)
 
       pub right_inner_open : Opened ns (left_of ns right)
@@ -168,19 +168,19 @@ module _ (ns : List Node) (i left right : ℕ) (lo : Loose ns i left right) wher
       pub right_inner_four : Four ns i (left_of ns right) right left (left_of ns (left_of ns right)) (right_of ns (left_of ns right)) (right_of ns right)
       right_inner_four = record { inside = (lo.inside, right_inner_open.inside, right_open.inside); stand = (lo.lower, right_inner_open.left, right_inner_open.right, right_open.right); apart = λ j. omega (arith, right_inner_counts j, lo.apart j) }
 
-      pub right_inner : (ms : List Node) → Crowned ns ms i (left_of ns right) right left (left_of ns (left_of ns right)) (right_of ns (left_of ns right)) (right_of ns right) → Level ns ms i (entry_at ns i) (treeAt ns left) (treeAt ns right) (left_of ns right) (treeAt ms (left_of ns right))
+      pub right_inner : (ms : List Node) → Crowned ns ms i (left_of ns right) right left (left_of ns (left_of ns right)) (right_of ns (left_of ns right)) (right_of ns right) → Level ns ms i (entry_at ns i) (tree_at ns left) (tree_at ns right) (left_of ns right) (tree_at ms (left_of ns right))
       right_inner ms cr = from_crown ms i (left_of ns right) right left (left_of ns (left_of ns right)) (right_of ns (left_of ns right)) (right_of ns right) right_inner_four cr
           (append_assoc (entries_at ns left) (entry_at ns i ∷ entries_at ns (left_of ns (left_of ns right))) (entry_at ns (left_of ns right) ∷ (entries_at ns (right_of ns (left_of ns right)) ++ entry_at ns right ∷ entries_at ns (right_of ns right)))
           ∙ ap (λ z. entries_at ns left ++ entry_at ns i ∷ z) (sym (append_assoc (entries_at ns (left_of ns (left_of ns right))) (entry_at ns (left_of ns right) ∷ entries_at ns (right_of ns (left_of ns right))) (entry_at ns right ∷ entries_at ns (right_of ns right))) ∙ ap (λ z. z ++ entry_at ns right ∷ entries_at ns (right_of ns right)) (sym (entries_open ns (left_of ns right) right_inner_open)) ∙ sym (entries_open ns right right_open)))
           right_inner_counts
           (inner_heights _ _ _ _ _ _ two (tall_open ns right right_open) right_open.level (tall_open ns (left_of ns right) right_inner_open) right_inner_open.level higher_right_inner)
 
-  module _ (two : tall (treeAt ns left) ≡ 2 + tall (treeAt ns right)) where
+  module _ (two : tall (tree_at ns left) ≡ 2 + tall (tree_at ns right)) where
     pub left_open : Opened ns left
     left_open = opened ns left lo.lower (rooted ns left (omega arith))
 
     module _ (higher : high ns (right_of ns left) ≤ high ns (left_of ns left)) where
-      higher_left_outer : tall (rightAt ns left) ≤ tall (left_at ns left)
+      higher_left_outer : tall (right_at ns left) ≤ tall (left_at ns left)
       higher_left_outer = omega (arith, high_is ns (left_of ns left) left_open.left, high_is ns (right_of ns left) left_open.right)
 
       pub left_outer_open : Opened ns (left_of ns left)
@@ -192,15 +192,15 @@ module _ (ns : List Node) (i left right : ℕ) (lo : Loose ns i left right) wher
       pub left_outer_four : Four ns (left_of ns left) left i (left_of ns (left_of ns left)) (right_of ns (left_of ns left)) (right_of ns left) right
       left_outer_four = record { inside = (left_outer_open.inside, left_open.inside, lo.inside); stand = (left_outer_open.left, left_outer_open.right, left_open.right, lo.upper); apart = λ j. omega (arith, left_outer_counts j, lo.apart j) }
 
-      pub left_outer : (ms : List Node) → Crowned ns ms (left_of ns left) left i (left_of ns (left_of ns left)) (right_of ns (left_of ns left)) (right_of ns left) right → Level ns ms i (entry_at ns i) (treeAt ns left) (treeAt ns right) left (treeAt ms left)
+      pub left_outer : (ms : List Node) → Crowned ns ms (left_of ns left) left i (left_of ns (left_of ns left)) (right_of ns (left_of ns left)) (right_of ns left) right → Level ns ms i (entry_at ns i) (tree_at ns left) (tree_at ns right) left (tree_at ms left)
       left_outer ms cr = from_crown ms (left_of ns left) left i (left_of ns (left_of ns left)) (right_of ns (left_of ns left)) (right_of ns left) right left_outer_four cr
           (ap (λ z. z ++ entry_at ns left ∷ (entries_at ns (right_of ns left) ++ entry_at ns i ∷ entries_at ns right)) (sym (entries_open ns (left_of ns left) left_outer_open))
           ∙ sym (append_assoc (entries_at ns (left_of ns left)) (entry_at ns left ∷ entries_at ns (right_of ns left)) (entry_at ns i ∷ entries_at ns right)) ∙ ap (λ z. z ++ entry_at ns i ∷ entries_at ns right) (sym (entries_open ns left left_open)))
           left_outer_counts
-          (mirror _ _ _ _ _ _ (outer_heights (tall (treeAt ns right)) (tall (treeAt ns left)) (tall (rightAt ns left)) (tall (left_at ns left)) (tall (rightAt ns (left_of ns left))) (tall (left_at ns (left_of ns left))) two (omega (arith, tall_open ns left left_open)) (left_open.level.1, left_open.level.0) (omega (arith, tall_open ns (left_of ns left) left_outer_open)) (left_outer_open.level.1, left_outer_open.level.0) higher_left_outer))
+          (mirror _ _ _ _ _ _ (outer_heights (tall (tree_at ns right)) (tall (tree_at ns left)) (tall (right_at ns left)) (tall (left_at ns left)) (tall (right_at ns (left_of ns left))) (tall (left_at ns (left_of ns left))) two (omega (arith, tall_open ns left left_open)) (left_open.level.1, left_open.level.0) (omega (arith, tall_open ns (left_of ns left) left_outer_open)) (left_outer_open.level.1, left_outer_open.level.0) higher_left_outer))
 
     module _ (higher : high ns (left_of ns left) < high ns (right_of ns left)) where
-      higher_left_inner : tall (left_at ns left) < tall (rightAt ns left)
+      higher_left_inner : tall (left_at ns left) < tall (right_at ns left)
       higher_left_inner = omega (arith, high_is ns (left_of ns left) left_open.left, high_is ns (right_of ns left) left_open.right)
 
       pub left_inner_open : Opened ns (right_of ns left)
@@ -212,10 +212,10 @@ module _ (ns : List Node) (i left right : ℕ) (lo : Loose ns i left right) wher
       pub left_inner_four : Four ns left (right_of ns left) i (left_of ns left) (left_of ns (right_of ns left)) (right_of ns (right_of ns left)) right
       left_inner_four = record { inside = (left_open.inside, left_inner_open.inside, lo.inside); stand = (left_open.left, left_inner_open.left, left_inner_open.right, lo.upper); apart = λ j. omega (arith, left_inner_counts j, lo.apart j) }
 
-      pub left_inner : (ms : List Node) → Crowned ns ms left (right_of ns left) i (left_of ns left) (left_of ns (right_of ns left)) (right_of ns (right_of ns left)) right → Level ns ms i (entry_at ns i) (treeAt ns left) (treeAt ns right) (right_of ns left) (treeAt ms (right_of ns left))
+      pub left_inner : (ms : List Node) → Crowned ns ms left (right_of ns left) i (left_of ns left) (left_of ns (right_of ns left)) (right_of ns (right_of ns left)) right → Level ns ms i (entry_at ns i) (tree_at ns left) (tree_at ns right) (right_of ns left) (tree_at ms (right_of ns left))
       left_inner ms cr = from_crown ms left (right_of ns left) i (left_of ns left) (left_of ns (right_of ns left)) (right_of ns (right_of ns left)) right left_inner_four cr
           (append_assoc (entries_at ns (left_of ns left)) (entry_at ns left ∷ entries_at ns (left_of ns (right_of ns left))) (entry_at ns (right_of ns left) ∷ (entries_at ns (right_of ns (right_of ns left)) ++ entry_at ns i ∷ entries_at ns right))
           ∙ ap (λ z. entries_at ns (left_of ns left) ++ entry_at ns left ∷ z) (sym (append_assoc (entries_at ns (left_of ns (right_of ns left))) (entry_at ns (right_of ns left) ∷ entries_at ns (right_of ns (right_of ns left))) (entry_at ns i ∷ entries_at ns right)) ∙ ap (λ z. z ++ entry_at ns i ∷ entries_at ns right) (sym (entries_open ns (right_of ns left) left_inner_open)))
           ∙ sym (append_assoc (entries_at ns (left_of ns left)) (entry_at ns left ∷ entries_at ns (right_of ns left)) (entry_at ns i ∷ entries_at ns right)) ∙ ap (λ z. z ++ entry_at ns i ∷ entries_at ns right) (sym (entries_open ns left left_open)))
           left_inner_counts
-          (mirror _ _ _ _ _ _ (inner_heights (tall (treeAt ns right)) (tall (treeAt ns left)) (tall (rightAt ns left)) (tall (left_at ns left)) (tall (rightAt ns (right_of ns left))) (tall (left_at ns (right_of ns left))) two (omega (arith, tall_open ns left left_open)) (left_open.level.1, left_open.level.0) (omega (arith, tall_open ns (right_of ns left) left_inner_open)) (left_inner_open.level.1, left_inner_open.level.0) higher_left_inner))
+          (mirror _ _ _ _ _ _ (inner_heights (tall (tree_at ns right)) (tall (tree_at ns left)) (tall (right_at ns left)) (tall (left_at ns left)) (tall (right_at ns (right_of ns left))) (tall (left_at ns (right_of ns left))) two (omega (arith, tall_open ns left left_open)) (left_open.level.1, left_open.level.0) (omega (arith, tall_open ns (right_of ns left) left_inner_open)) (left_inner_open.level.1, left_inner_open.level.0) higher_left_inner))

@@ -8,14 +8,14 @@ use Rattle.entry.specs.Lists.{Rising}
 use Rattle.trees.specs.declared.Node.{Node}
 use Rattle.trees.specs.Counts.{single, times}
 use Rattle.trees.specs.Trees.{Tree, places}
-use Rattle.trees.specs.Pools.{entry_in, entry_at, Standing, treeAt, entries_at, places_at, Kept}
+use Rattle.trees.specs.Pools.{entry_in, entry_at, Standing, tree_at, entries_at, places_at, Kept}
 use Rattle.trees.proofs.Counts.{single_same}
 use Rattle.trees.proofs.Pools.{same_tree, standing_kept}
 use Rattle.avl.specs.Turns.{Loose, Level}
 
 module _ (ns ms : List Node) (x a b : ℕ) (ps : List ℕ) (k : Kept ns ms ps) (sa : Standing ms a) (sb : Standing ns b) (within : x < length ns)
     (fits : (j : ℕ) → times j (places_at ms a) ≡ times j ps) (out : (j : ℕ) → times j ps + single j x + times j (places_at ns b) ≤ 1) where
-  pub other_same : treeAt ms b ≡ treeAt ns b
+  pub other_same : tree_at ms b ≡ tree_at ns b
   other_same = same_tree ns ms ps k b (λ m. omega (arith, out m)) sb
 
   node_same : entry_at ms x ≡ entry_at ns x
@@ -43,8 +43,8 @@ module _ (ns ms : List Node) (x a b : ℕ) (ps : List ℕ) (k : Kept ns ms ps) (
   }
 
   module _ (xs : List Node) (root : ℕ) (u : Tree) where
-    pub level_left : Level ms xs x (entry_at ms x) (treeAt ms a) (treeAt ms b) root u → Level ms xs x (entry_at ns x) (treeAt ms a) (treeAt ns b) root u
+    pub level_left : Level ms xs x (entry_at ms x) (tree_at ms a) (tree_at ms b) root u → Level ms xs x (entry_at ns x) (tree_at ms a) (tree_at ns b) root u
     level_left v = rw (← other_same, ← node_same) v
 
-    pub level_right : Level ms xs x (entry_at ms x) (treeAt ms b) (treeAt ms a) root u → Level ms xs x (entry_at ns x) (treeAt ns b) (treeAt ms a) root u
+    pub level_right : Level ms xs x (entry_at ms x) (tree_at ms b) (tree_at ms a) root u → Level ms xs x (entry_at ns x) (tree_at ns b) (tree_at ms a) root u
     level_right v = rw (← other_same, ← node_same) v

@@ -5,7 +5,7 @@ use Rattle.entry.specs.Lists.{at, put}
 use Rattle.trees.specs.declared.Node.{Node}
 use Rattle.trees.specs.Counts.{times}
 use Rattle.trees.specs.Trees.{entries, places}
-use Rattle.trees.specs.Pools.{Standing, treeAt, entries_at, places_at}
+use Rattle.trees.specs.Pools.{Standing, tree_at, entries_at, places_at}
 use Rattle.trees.proofs.Pools.{standing_none, end_is}
 use Rattle.avl.specs.declared.grow.Grown.{Grown}
 use Rattle.avl.specs.Grows.{Fresh, Grew}
@@ -33,7 +33,7 @@ known_fresh ns root fresh key es ps k lt free new = record {
   new = ap (at key) k.entries_are ∙ new;
 }
 
-pub known_grown : (ns ms : List Node) (root fresh : ℕ) (r : Grown) (e : Entry) (es : List Entry) (ps : List ℕ) → Known ns root es ps → Grew ns ms r fresh e (treeAt ns root) (treeAt ms r.root) → Known ms r.root (put e es) (fresh ∷ ps)
+pub known_grown : (ns ms : List Node) (root fresh : ℕ) (r : Grown) (e : Entry) (es : List Entry) (ps : List ℕ) → Known ns root es ps → Grew ns ms r fresh e (tree_at ns root) (tree_at ms r.root) → Known ms r.root (put e es) (fresh ∷ ps)
 known_grown ns ms root fresh r e es ps k g = record {
   stands = g.stands;
   entries_are = g.holds ∙ ap (put e) k.entries_are;

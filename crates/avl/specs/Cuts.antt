@@ -11,7 +11,7 @@ use Rattle.entry.specs.Lists.{at, without, filled}
 use Rattle.trees.specs.declared.Node.{Node}
 use Rattle.trees.specs.Counts.{single, times}
 use Rattle.trees.specs.Trees.{Tree, tall, entries, places, seen}
-use Rattle.trees.specs.Pools.{entry_at, Stands, Standing, treeAt, left_at, rightAt, entries_at, Kept}
+use Rattle.trees.specs.Pools.{entry_at, Stands, Standing, tree_at, left_at, right_at, entries_at, Kept}
 use Rattle.avl.specs.declared.cut.Shrunk.{Shrunk}
 
 pub record Lost (ns ms : List Node) (gone root : ℕ) (t u : Tree) : Type 0 where
@@ -26,8 +26,8 @@ pub record First (ns ms : List Node) (first root : ℕ) (t u : Tree) : Type 0 wh
   pub holds : entries t ≡ entry_at ns first ∷ entries u
 
 pub record Rootless (ns ms : List Node) (old root : ℕ) (u : Tree) : Type 0 where
-  pub lost : Lost ns ms old root (treeAt ns old) u
-  pub holds : entries u ≡ entries (left_at ns old) ++ entries (rightAt ns old)
+  pub lost : Lost ns ms old root (tree_at ns old) u
+  pub holds : entries u ≡ entries (left_at ns old) ++ entries (right_at ns old)
 
 pub record Held (ns : List Node) (root key : ℕ) : Type 0 where
   pub stands : Standing ns root

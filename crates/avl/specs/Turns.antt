@@ -13,13 +13,13 @@ use Rattle.entry.specs.Lists.{Rising}
 use Rattle.trees.specs.declared.Node.{Node}
 use Rattle.trees.specs.Counts.{single, times}
 use Rattle.trees.specs.Trees.{Tree, node, tall, entries, places}
-use Rattle.trees.specs.Pools.{nodeAt, entry_at, high, Lies, Stands, Standing, treeAt, entries_at, places_at, Kept}
+use Rattle.trees.specs.Pools.{node_at, entry_at, high, Lies, Stands, Standing, tree_at, entries_at, places_at, Kept}
 
 abbrev pub Ready : List Node → ℕ → Type 0
 Ready ns i = ((i ≢ 65535) → i < length ns) × (high ns i < 200)
 
 abbrev pub hung : List Node → ℕ → ℕ → ℕ → List Node
-hung ns i l r = slice_set ns i (record { key = (nodeAt ns i).key; note = (nodeAt ns i).note; left = l; right = r; height = 1 + max (high ns l) (high ns r) })
+hung ns i l r = slice_set ns i (record { key = (node_at ns i).key; note = (node_at ns i).note; left = l; right = r; height = 1 + max (high ns l) (high ns r) })
 
 pub record Four (ns : List Node) (x m y a b c d : ℕ) : Type 0 where
   pub inside : (x < length ns) × (m < length ns) × (y < length ns)
@@ -27,7 +27,7 @@ pub record Four (ns : List Node) (x m y a b c d : ℕ) : Type 0 where
   pub apart : (j : ℕ) → times j (places_at ns a) + single j x + times j (places_at ns b) + single j m + times j (places_at ns c) + single j y + times j (places_at ns d) ≤ 1
 
 abbrev pub crowned : List Node → ℕ → ℕ → ℕ → ℕ → ℕ → ℕ → ℕ → Tree
-crowned ns x m y a b c d = node m (entry_at ns m) (node x (entry_at ns x) (treeAt ns a) (treeAt ns b)) (node y (entry_at ns y) (treeAt ns c) (treeAt ns d))
+crowned ns x m y a b c d = node m (entry_at ns m) (node x (entry_at ns x) (tree_at ns a) (tree_at ns b)) (node y (entry_at ns y) (tree_at ns c) (tree_at ns d))
 
 pub record Crowned (ns ms : List Node) (x m y a b c d : ℕ) : Type 0 where
   pub lies : Lies ms (crowned ns x m y a b c d)

@@ -3,7 +3,7 @@
 // Where the node has two subtrees, the first node of the right one takes its place.
 
 ghost use Rattle.std.specs.Prelude.{◌≡◌, ◌≢◌};
-ghost use Rattle.trees.specs.Pools.{treeAt, Standing};
+ghost use Rattle.trees.specs.Pools.{tree_at, Standing};
 ghost use Rattle.avl.specs.Cuts.{Held, First, Rootless, Shrank};
 
 use crate::turns::level;
@@ -21,7 +21,7 @@ pub struct Shrunk {
 fn take_first(nodes: &mut [Node], root: u16) -> (u16, u16)
     requires tree { Standing nodes.old root }
     requires some { root ≢ 65535 }
-    ensures { First nodes.old nodes.new result.0 result.1 (treeAt nodes.old root) (treeAt nodes.new result.1) }
+    ensures { First nodes.old nodes.new result.0 result.1 (tree_at nodes.old root) (tree_at nodes.new result.1) }
 {
     let here = nodes[root as usize];
     if here.left == NONE {
@@ -36,7 +36,7 @@ fn take_first(nodes: &mut [Node], root: u16) -> (u16, u16)
 fn drop_root(nodes: &mut [Node], root: u16) -> u16
     requires tree { Standing nodes.old root }
     requires some { root ≢ 65535 }
-    ensures { Rootless nodes.old nodes.new root result (treeAt nodes.new result) }
+    ensures { Rootless nodes.old nodes.new root result (tree_at nodes.new result) }
 {
     let here = nodes[root as usize];
     if here.left == NONE {
@@ -51,7 +51,7 @@ fn drop_root(nodes: &mut [Node], root: u16) -> u16
 
 pub fn remove(nodes: &mut [Node], root: u16, key: u64) -> Shrunk
     requires { Held nodes.old root key }
-    ensures { Shrank nodes.old nodes.new result key (treeAt nodes.old root) (treeAt nodes.new result.root) }
+    ensures { Shrank nodes.old nodes.new result key (tree_at nodes.old root) (tree_at nodes.new result.root) }
 {
     let here = nodes[root as usize];
     if key < here.key {

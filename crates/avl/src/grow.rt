@@ -1,6 +1,6 @@
 // A new entry goes to the end of its key's search path, into a node that is free.
 
-ghost use Rattle.trees.specs.Pools.{treeAt};
+ghost use Rattle.trees.specs.Pools.{tree_at};
 ghost use Rattle.avl.specs.Grows.{Fresh, Grew};
 
 use crate::turns::level;
@@ -16,7 +16,7 @@ pub struct Grown {
 
 pub fn insert(nodes: &mut [Node], root: u16, fresh: u16, new: Entry) -> Grown
     requires { Fresh nodes.old root fresh new.key }
-    ensures { Grew nodes.old nodes.new result fresh new (treeAt nodes.old root) (treeAt nodes.new result.root) }
+    ensures { Grew nodes.old nodes.new result fresh new (tree_at nodes.old root) (tree_at nodes.new result.root) }
 {
     if root == NONE {
         nodes[fresh as usize] = Node {

@@ -6,7 +6,7 @@
 
 ghost use Rattle.std.specs.Prelude.{◌≡◌, ◌≤◌, length};
 ghost use Rattle.trees.specs.Trees.{tall};
-ghost use Rattle.trees.specs.Pools.{treeAt};
+ghost use Rattle.trees.specs.Pools.{tree_at};
 ghost use Rattle.avl.specs.Builds.{Lowest, Order, Built};
 
 use crate::turns::hang;
@@ -27,8 +27,8 @@ fn height_for(count: usize) -> u8
 fn raise(nodes: &mut [Node], order: &[u16], height: u8) -> u16
     requires order { Order nodes.old order.now }
     requires height { Lowest (length order.now) height }
-    ensures built { Built nodes.old nodes.new order.now result (treeAt nodes.new result) }
-    ensures height { tall (treeAt nodes.new result) ≡ height }
+    ensures built { Built nodes.old nodes.new order.now result (tree_at nodes.new result) }
+    ensures height { tall (tree_at nodes.new result) ≡ height }
 {
     let count = order.len();
     if count == 0 {
@@ -46,7 +46,7 @@ fn raise(nodes: &mut [Node], order: &[u16], height: u8) -> u16
 // Makes one tree of the nodes that order names, and answers its root.
 pub fn build(nodes: &mut [Node], order: &[u16]) -> u16
     requires { Order nodes.old order.now }
-    ensures { Built nodes.old nodes.new order.now result (treeAt nodes.new result) }
+    ensures { Built nodes.old nodes.new order.now result (tree_at nodes.new result) }
 {
     raise(nodes, order, height_for(order.len()))
 }

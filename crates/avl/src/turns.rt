@@ -5,7 +5,7 @@
 
 ghost use Rattle.std.specs.Prelude.{◌≡◌, ◌+◌, ◌<◌, ◌≤◌, length, ◌≢◌};
 ghost use Rattle.trees.specs.Trees.{tall};
-ghost use Rattle.trees.specs.Pools.{high, entry_at, treeAt};
+ghost use Rattle.trees.specs.Pools.{high, entry_at, tree_at};
 ghost use Rattle.avl.specs.Turns.{Ready, hung, Four, Crowned, Loose, Level};
 
 use trees::{NONE, Node};
@@ -56,8 +56,8 @@ fn crown(nodes: &mut [Node], spots: (u16, u16, u16), under: (u16, u16, u16, u16)
 // The node i above two trees, the right one two higher.
 fn lean_left(nodes: &mut [Node], i: u16, left: u16, right: u16) -> u16
     requires loose { Loose nodes.old i left right }
-    requires two { tall (treeAt nodes.old right) ≡ 2 + tall (treeAt nodes.old left) }
-    ensures { Level nodes.old nodes.new i (entry_at nodes.old i) (treeAt nodes.old left) (treeAt nodes.old right) result (treeAt nodes.new result) }
+    requires two { tall (tree_at nodes.old right) ≡ 2 + tall (tree_at nodes.old left) }
+    ensures { Level nodes.old nodes.new i (entry_at nodes.old i) (tree_at nodes.old left) (tree_at nodes.old right) result (tree_at nodes.new result) }
 {
     let high = nodes[right as usize];
     if height_of(nodes, high.left) <= height_of(nodes, high.right) {
@@ -82,8 +82,8 @@ fn lean_left(nodes: &mut [Node], i: u16, left: u16, right: u16) -> u16
 // The node i above two trees, the left one two higher.
 fn lean_right(nodes: &mut [Node], i: u16, left: u16, right: u16) -> u16
     requires loose { Loose nodes.old i left right }
-    requires two { tall (treeAt nodes.old left) ≡ 2 + tall (treeAt nodes.old right) }
-    ensures { Level nodes.old nodes.new i (entry_at nodes.old i) (treeAt nodes.old left) (treeAt nodes.old right) result (treeAt nodes.new result) }
+    requires two { tall (tree_at nodes.old left) ≡ 2 + tall (tree_at nodes.old right) }
+    ensures { Level nodes.old nodes.new i (entry_at nodes.old i) (tree_at nodes.old left) (tree_at nodes.old right) result (tree_at nodes.new result) }
 {
     let high = nodes[left as usize];
     if height_of(nodes, high.right) <= height_of(nodes, high.left) {
@@ -108,9 +108,9 @@ fn lean_right(nodes: &mut [Node], i: u16, left: u16, right: u16) -> u16
 // The node i above two trees whose heights differ by two at most.
 pub(crate) fn level(nodes: &mut [Node], i: u16, left: u16, right: u16) -> u16
     requires loose { Loose nodes.old i left right }
-    requires low { tall (treeAt nodes.old left) ≤ 2 + tall (treeAt nodes.old right) }
-    requires high { tall (treeAt nodes.old right) ≤ 2 + tall (treeAt nodes.old left) }
-    ensures { Level nodes.old nodes.new i (entry_at nodes.old i) (treeAt nodes.old left) (treeAt nodes.old right) result (treeAt nodes.new result) }
+    requires low { tall (tree_at nodes.old left) ≤ 2 + tall (tree_at nodes.old right) }
+    requires high { tall (tree_at nodes.old right) ≤ 2 + tall (tree_at nodes.old left) }
+    ensures { Level nodes.old nodes.new i (entry_at nodes.old i) (tree_at nodes.old left) (tree_at nodes.old right) result (tree_at nodes.new result) }
 {
     let low = height_of(nodes, left);
     let high = height_of(nodes, right);

@@ -4,7 +4,7 @@ use Rattle.std.proofs.lemmas.List.{get_or-set_other, set-set, set_comm}
 use Rattle.std.proofs.lemmas.Bool.{cases_lt, cases_eq}
 use Rattle.dictionary.specs.Pairs.{with_pair}
 use Rattle.slots.specs.declared.Slot.{Slot}
-use Rattle.slots.specs.Slots.{blank, nodeAt, pairsOf, held, Apart}
+use Rattle.slots.specs.Slots.{blank, node_at, pairs_of, held, Apart}
 use Rattle.slots.proofs.Rows.{node_same, node_other, taken_within, out_apart, out_pairs}
 use Rattle.slots.proofs.Counts.{held_less}
 use Rattle.slots.proofs.Moves.{moved, move_apart, move_held, move_pairs}
@@ -15,14 +15,14 @@ use Rattle.cuckoo.proofs.Standing.{placed_set}
 pub record Gone (xs : List Slot) (at : ℕ) (zs : List Slot) : Type 0 where
   pub apart : Apart zs
   pub count : held zs + 1 ≡ held xs
-  pub pairs : (m : ℕ) → pairsOf zs m ≡ with_pair (pairsOf xs) (nodeAt xs at) None m
+  pub pairs : (m : ℕ) → pairs_of zs m ≡ with_pair (pairs_of xs) (node_at xs at) None m
 
-module _ (xs : List Slot) (at : ℕ) (within : at < length xs) (apart : Apart xs) (taken : 0 < nodeAt xs at) where
+module _ (xs : List Slot) (at : ℕ) (within : at < length xs) (apart : Apart xs) (taken : 0 < node_at xs at) where
   pub emptied : Gone xs at (set xs at blank)
   emptied = record { apart = out_apart xs at within apart; count = held_less xs at blank within taken refl; pairs = out_pairs xs at within apart taken }
 
   -- the last slot l is taken
-  module _ (l : ℕ) (l_within : l < length xs) (l_taken : 0 < nodeAt xs l) where
+  module _ (l : ℕ) (l_within : l < length xs) (l_taken : 0 < node_at xs l) where
     abbrev filled : List Slot
     filled = set (set xs at (get_or xs l blank)) l blank
 
@@ -46,8 +46,8 @@ module _ (xs : List Slot) (at : ℕ) (within : at < length xs) (apart : Apart xs
         let ne' : l ≢ at = λ e. ne (sym e) in
         let l_there : l < length ys = rw length-set l_within in
         let at_there : at < length ys = rw length-set within in
-        let hole : nodeAt ys at ≡ 0 = node_same xs at blank within in
-        let l_some : 0 < nodeAt ys l = rw (node_other xs at blank within l ne') l_taken in
+        let hole : node_at ys at ≡ 0 = node_same xs at blank within in
+        let l_some : 0 < node_at ys l = rw (node_other xs at blank within l ne') l_taken in
         let ys_apart : Apart ys = emptied.apart in
         record {
           apart = move_apart ys l at l_there at_there ne hole l_some ys_apart;
@@ -67,17 +67,17 @@ module _ (xs : List Slot) (at : ℕ) (within : at < length xs) (apart : Apart xs
         (λ pe. absurd (omega (arith, pe.0)))
 
 -- the slots of a packed overflow row
-module _ (xs : List Slot) (n at : ℕ) (packed : Packed xs n) (high : 1024 ≤ at) (taken : 0 < nodeAt xs at) where
+module _ (xs : List Slot) (n at : ℕ) (packed : Packed xs n) (high : 1024 ≤ at) (taken : 0 < node_at xs at) where
   pub at_below : at < 1024 + n
   at_below =
       ⊎_elim (λ (a : at < 1024 + n). a)
       (λ (b : 1024 + n ≤ at).
       let e : 1024 + (at - 1024) ≡ at = omega arith in
-      let z : nodeAt xs at ≡ 0 = rw e at (packed.1 (at - 1024) (omega arith)) in
+      let z : node_at xs at ≡ 0 = rw e at (packed.1 (at - 1024) (omega arith)) in
       absurd (omega arith))
       (cases_lt at (1024 + n))
 
-  pub last_taken : 0 < nodeAt xs (1024 + n - 1)
+  pub last_taken : 0 < node_at xs (1024 + n - 1)
   last_taken =
       let e : 1024 + (n - 1) ≡ 1024 + n - 1 = omega (arith, at_below) in
       rw e at (packed.0 (n - 1) (omega (arith, at_below)))
@@ -91,12 +91,12 @@ module _ (xs : List Slot) (n at : ℕ) (packed : Packed xs n) (high : 1024 ≤ a
         λ k h.
             let off = node_other (set xs at f) l blank there (1024 + k) (omega arith) in
             ⊎_elim
-            (λ (a : 1024 + k ≡ at). omega (arith, off, ap (nodeAt (set xs at f)) a, node_same xs at f within, last_taken))
+            (λ (a : 1024 + k ≡ at). omega (arith, off, ap (node_at (set xs at f)) a, node_same xs at f within, last_taken))
             (λ (na : 1024 + k ≡ at → ⊥). omega (arith, off, node_other xs at f within (1024 + k) na, packed.0 k (omega arith)))
             (cases_eq (1024 + k) at),
         λ k h.
             ⊎_elim
-            (λ (a : 1024 + k ≡ l). ap (nodeAt (set (set xs at f) l blank)) a ∙ node_same (set xs at f) l blank there)
+            (λ (a : 1024 + k ≡ l). ap (node_at (set (set xs at f) l blank)) a ∙ node_same (set xs at f) l blank there)
             (λ (na : 1024 + k ≡ l → ⊥).
             let out : n ≤ k = omega (arith, at_below) in
             node_other (set xs at f) l blank there (1024 + k) na ∙ node_other xs at f within (1024 + k) (omega (arith, at_below)) ∙ packed.1 k out)

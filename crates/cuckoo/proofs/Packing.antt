@@ -3,20 +3,20 @@ use Rattle.std.proofs.Common.{◌≡◌, ℕ, ◌+◌, ◌-◌, ◌<◌, ◌≤�
 use Rattle.std.proofs.lemmas.List.{get_or-drop}
 use Rattle.std.proofs.lemmas.Bool.{cases_lt, cases_eq}
 use Rattle.slots.specs.declared.Slot.{Slot}
-use Rattle.slots.specs.Slots.{blank, nodeAt, held}
+use Rattle.slots.specs.Slots.{blank, node_at, held}
 use Rattle.slots.proofs.Rows.{node_same, node_other, taken_within, fresh_node}
 use Rattle.slots.proofs.Counts.{held_packed, held_drop}
 use Rattle.cuckoo.specs.Layout.{Packed}
 
 -- a row with the same nodes in its overflow part
-packed_like : (xs ys : List Slot) (n : ℕ) → ((k : ℕ) → nodeAt ys (1024 + k) ≡ nodeAt xs (1024 + k)) → Packed xs n → Packed ys n
+packed_like : (xs ys : List Slot) (n : ℕ) → ((k : ℕ) → node_at ys (1024 + k) ≡ node_at xs (1024 + k)) → Packed xs n → Packed ys n
 packed_like xs ys n like packed = (λ k h. omega (arith, like k, packed.0 k h), λ k h. like k ∙ packed.1 k h)
 
 module _ (xs : List Slot) (n : ℕ) (packed : Packed xs n) where
   -- as many pairs stand there as slots are said to be taken
   pub packed_count : held (drop 1024 xs) ≡ n
   packed_count =
-      let at : (k : ℕ) → nodeAt (drop 1024 xs) k ≡ nodeAt xs (1024 + k) = λ k. ap (λ (s : Slot). s.node) (get_or-drop 1024 xs k blank) in
+      let at : (k : ℕ) → node_at (drop 1024 xs) k ≡ node_at xs (1024 + k) = λ k. ap (λ (s : Slot). s.node) (get_or-drop 1024 xs k blank) in
       held_packed (drop 1024 xs) n (λ k h. omega (arith, at k, packed.0 k h)) (λ k h. at k ∙ packed.1 k h)
 
   pub packed_few : n ≤ held xs
@@ -32,11 +32,11 @@ module _ (xs : List Slot) (n : ℕ) (packed : Packed xs n) where
   packed_below p c within low = packed_like xs (set xs p c) n (λ k. node_other xs p c within (1024 + k) (omega arith)) packed
 
   -- a node gets new links
-  pub packed_renew : (p : ℕ) (c : Slot) → p < length xs → nodeAt xs p ≡ c.node → Packed (set xs p c) n
+  pub packed_renew : (p : ℕ) (c : Slot) → p < length xs → node_at xs p ≡ c.node → Packed (set xs p c) n
   packed_renew p c within same =
       packed_like xs (set xs p c) n
       (λ k. ⊎_elim
-      (λ (a : 1024 + k ≡ p). ap (nodeAt (set xs p c)) a ∙ node_same xs p c within ∙ sym same ∙ sym (ap (nodeAt xs) a))
+      (λ (a : 1024 + k ≡ p). ap (node_at (set xs p c)) a ∙ node_same xs p c within ∙ sym same ∙ sym (ap (node_at xs) a))
       (λ (na : 1024 + k ≡ p → ⊥). node_other xs p c within (1024 + k) na)
       (cases_eq (1024 + k) p))
       packed

@@ -1,7 +1,7 @@
 -- A put that carries a pair from home to home.
 use Rattle.std.proofs.Common.{◌≡◌, ℕ, ◌+◌, ◌<◌, List, length, get_or, set, arith}
 use Rattle.slots.specs.declared.Slot.{Slot}
-use Rattle.slots.specs.Slots.{blank, nodeAt, held, Apart, Absent}
+use Rattle.slots.specs.Slots.{blank, node_at, held, Apart, Absent}
 use Rattle.slots.proofs.Carried.{Carried, carried_start, swapped}
 use Rattle.cuckoo.specs.Homes.{first_of, home_of}
 use Rattle.cuckoo.specs.Layout.{Placed, Packed}
@@ -30,7 +30,7 @@ module _ {xs₀ : List Slot} {new : Slot} {n : ℕ} {xs : List Slot} {c : Slot} 
   pub put_packed : Packed (set xs at c) n
   put_packed = packed_below xs n s.packed at c at_within s.below
 
-  pub pushed : 0 < nodeAt xs at → (to : ℕ) → to < 1024 → home_of to (nodeAt xs at) ≡ to → Pushing xs₀ new n (set xs at c) (get_or xs at blank) to
+  pub pushed : 0 < node_at xs at → (to : ℕ) → to < 1024 → home_of to (node_at xs at) ≡ to → Pushing xs₀ new n (set xs at c) (get_or xs at blank) to
   pushed taken to below home = record { carried = swapped s.carried at at_within taken; placed = put_placed; packed = put_packed; below = below; home = home }
 
   -- no push is left
@@ -44,5 +44,5 @@ module _ {xs₀ : List Slot} {new : Slot} {n : ℕ} {xs : List Slot} {c : Slot} 
     pub spill_packed : Packed (set xs (1024 + n) c) (n + 1)
     spill_packed = packed_spill xs n s.packed c spill_within s.carried.some
 
-    pub spill_empty : nodeAt xs (1024 + n) ≡ 0
+    pub spill_empty : node_at xs (1024 + n) ≡ 0
     spill_empty = s.packed.1 n (omega arith)

@@ -2,7 +2,7 @@
 use Rattle.std.proofs.Common.{◌≡◌, ℕ, ◌+◌, ◌-◌, ◌*◌, ◌%◌, ◌^◌, ◌<◌, ◌≤◌, List, length, set, replicate, sym, ap, ◌∙◌, subst, ⊎_elim, arith}
 use Rattle.std.proofs.lemmas.Bool.{cases_lt, cases_eq, lt-ltb, le-ltb, cond-true, cond-false}
 use Rattle.slots.specs.declared.Slot.{Slot}
-use Rattle.slots.specs.Slots.{blank, nodeAt, Absent}
+use Rattle.slots.specs.Slots.{blank, node_at, Absent}
 use Rattle.slots.proofs.Rows.{node_same, node_other, fresh_node}
 use Rattle.cuckoo.specs.Homes.{first_of, second_of, home_of}
 use Rattle.cuckoo.specs.Layout.{Placed, Packed}
@@ -19,19 +19,19 @@ pub home_first : (n : ℕ) → home_of (first_of n) n ≡ first_of n
 home_first n = cond-true _ _ _ (lt-ltb (first_of n) 512 (first_below n))
 
 -- a node that is neither at its two homes nor in the taken part of the overflow row is nowhere
-pub nowhere : (xs : List Slot) (n spilled : ℕ) → Placed xs → Packed xs spilled → 0 < n → (nodeAt xs (first_of n) ≡ n → ⊥) → (nodeAt xs (second_of n) ≡ n → ⊥) → ((k : ℕ) → (1024 ≤ k) × (k < 1024 + spilled) → nodeAt xs k ≡ n → ⊥) → Absent xs n
+pub nowhere : (xs : List Slot) (n spilled : ℕ) → Placed xs → Packed xs spilled → 0 < n → (node_at xs (first_of n) ≡ n → ⊥) → (node_at xs (second_of n) ≡ n → ⊥) → ((k : ℕ) → (1024 ≤ k) × (k < 1024 + spilled) → node_at xs k ≡ n → ⊥) → Absent xs n
 nowhere xs n spilled placed packed pos one two over i is =
     ⊎_elim
-    (λ (a : i < 512). one (subst (λ (x : ℕ). nodeAt xs x ≡ n) (sym (placed i (omega arith, omega arith)) ∙ cond-true _ _ _ (lt-ltb i 512 a) ∙ ap first_of is) is))
+    (λ (a : i < 512). one (subst (λ (x : ℕ). node_at xs x ≡ n) (sym (placed i (omega arith, omega arith)) ∙ cond-true _ _ _ (lt-ltb i 512 a) ∙ ap first_of is) is))
     (λ (na : 512 ≤ i).
     ⊎_elim
-    (λ (b : i < 1024). two (subst (λ (x : ℕ). nodeAt xs x ≡ n) (sym (placed i (omega arith, b)) ∙ cond-false _ _ _ (le-ltb i 512 na) ∙ ap second_of is) is))
+    (λ (b : i < 1024). two (subst (λ (x : ℕ). node_at xs x ≡ n) (sym (placed i (omega arith, b)) ∙ cond-false _ _ _ (le-ltb i 512 na) ∙ ap second_of is) is))
     (λ (nb : 1024 ≤ i).
     ⊎_elim
     (λ (d : i < 1024 + spilled). over i (nb, d) is)
     (λ (nd : 1024 + spilled ≤ i).
     let e : 1024 + (i - 1024) ≡ i = omega arith in
-    let z : nodeAt xs i ≡ 0 = rw e at (packed.1 (i - 1024) (omega arith)) in
+    let z : node_at xs i ≡ 0 = rw e at (packed.1 (i - 1024) (omega arith)) in
     omega arith)
     (cases_lt i (1024 + spilled)))
     (cases_lt i 1024))
@@ -42,7 +42,7 @@ pub placed_set : (xs : List Slot) (p : ℕ) (c : Slot) → p < length xs → Pla
 placed_set xs p c h placed home i pe =
     ⊎_elim
     (λ (a : i ≡ p).
-    let e : nodeAt (set xs p c) i ≡ c.node = ap (nodeAt (set xs p c)) a ∙ node_same xs p c h in
+    let e : node_at (set xs p c) i ≡ c.node = ap (node_at (set xs p c)) a ∙ node_same xs p c h in
     ap (home_of i) e ∙ ap (λ x. home_of x c.node) a ∙ home (omega (arith, pe.0), omega (arith, pe.1)) ∙ sym a)
     (λ (na : i ≡ p → ⊥).
     let e = node_other xs p c h i na in

@@ -14,18 +14,18 @@
 --                    rows is emptied; in the overflow row the last pair moves into the hole
 use Rattle.std.specs.Prelude.{◌≡◌, ℕ, suc, ◌+◌, ◌-◌, ◌<◌, ◌≤◌, List, slice_index_or, slice_set}
 use Rattle.slots.specs.declared.Slot.{Slot}
-use Rattle.slots.specs.Slots.{blank, nodeAt}
+use Rattle.slots.specs.Slots.{blank, node_at}
 use Rattle.cuckoo.specs.Homes.{home_of, other_of}
 
 abbrev pub Placed : List Slot → Type 0
-Placed xs = (i : ℕ) → (0 < nodeAt xs i) × (i < 1024) → home_of i (nodeAt xs i) ≡ i
+Placed xs = (i : ℕ) → (0 < node_at xs i) × (i < 1024) → home_of i (node_at xs i) ≡ i
 
 abbrev pub Packed : List Slot → ℕ → Type 0
-Packed xs n = ((k : ℕ) → k < n → 0 < nodeAt xs (1024 + k)) × ((k : ℕ) → n ≤ k → nodeAt xs (1024 + k) ≡ 0)
+Packed xs n = ((k : ℕ) → k < n → 0 < node_at xs (1024 + k)) × ((k : ℕ) → n ≤ k → node_at xs (1024 + k) ≡ 0)
 
 pub data Settles : ℕ → List Slot → ℕ → ℕ → Slot → List Slot → ℕ → Type 0 where
-  rests : {k : ℕ} {xs : List Slot} {n at : ℕ} {c : Slot} → nodeAt xs at ≡ 0 → Settles (suc k) xs n at c (slice_set xs at c) n
-  pushes : {k : ℕ} {xs : List Slot} {n at : ℕ} {c : Slot} {ys : List Slot} {m : ℕ} → 0 < nodeAt xs at → Settles k (slice_set xs at c) n (other_of at (nodeAt xs at)) (slice_index_or xs at blank) ys m → Settles (suc k) xs n at c ys m
+  rests : {k : ℕ} {xs : List Slot} {n at : ℕ} {c : Slot} → node_at xs at ≡ 0 → Settles (suc k) xs n at c (slice_set xs at c) n
+  pushes : {k : ℕ} {xs : List Slot} {n at : ℕ} {c : Slot} {ys : List Slot} {m : ℕ} → 0 < node_at xs at → Settles k (slice_set xs at c) n (other_of at (node_at xs at)) (slice_index_or xs at blank) ys m → Settles (suc k) xs n at c ys m
   spills : {xs : List Slot} {n at : ℕ} {c : Slot} → Settles 0 xs n at c (slice_set xs (1024 + n) c) (n + 1)
 
 pub record Erased (xs : List Slot) (n at : ℕ) (ys : List Slot) (m : ℕ) : Type 0 where

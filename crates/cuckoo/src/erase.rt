@@ -2,7 +2,7 @@
 ghost use Rattle.std.specs.Prelude.{◌≡◌, ◌+◌, ◌<◌, None as Nothing};
 ghost use Rattle.dictionary.specs.Pairs.{with_pair};
 ghost use Rattle.cuckoo.specs.Layout.{Placed, Packed, Erased};
-ghost use Rattle.slots.specs.Slots.{nodeAt, pairsOf, held, Apart};
+ghost use Rattle.slots.specs.Slots.{node_at, pairs_of, held, Apart};
 
 use crate::homes::OVERFLOW;
 use slots::{EMPTY, Slot};
@@ -14,13 +14,13 @@ pub(crate) fn erase(slots: &mut [Slot; 1792], spilled: u16, at: usize) -> u16
     requires apart { Apart slots.old }
     requires packed { Packed slots.old spilled }
     requires within { at < 1792 }
-    requires some { 0 < nodeAt slots.old at }
+    requires some { 0 < node_at slots.old at }
     ensures erased { Erased slots.old spilled at slots.new result }
     ensures placed { Placed slots.new }
     ensures apart { Apart slots.new }
     ensures packed { Packed slots.new result }
     ensures held { held slots.new + 1 ≡ held slots.old }
-    ensures pairs { pairsOf slots.new ≡ with_pair (pairsOf slots.old) (nodeAt slots.old at) Nothing }
+    ensures pairs { pairs_of slots.new ≡ with_pair (pairs_of slots.old) (node_at slots.old at) Nothing }
 {
     if at < OVERFLOW {
         slots[at] = EMPTY;

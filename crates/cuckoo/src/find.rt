@@ -2,7 +2,7 @@
 // and on Packed: past the taken slots of the overflow row all are empty.
 ghost use Rattle.std.specs.Prelude.{◌≡◌, ◌<◌, MatchOption};
 ghost use Rattle.cuckoo.specs.Layout.{Placed, Packed};
-ghost use Rattle.slots.specs.Slots.{nodeAt, Absent};
+ghost use Rattle.slots.specs.Slots.{node_at, Absent};
 
 use crate::homes::{OVERFLOW, first, second};
 use slots::Slot;
@@ -12,7 +12,7 @@ pub(crate) fn find(slots: &[Slot; 1792], spilled: u16, node: u64) -> Option<usiz
     requires placed { Placed slots.now }
     requires packed { Packed slots.now spilled }
     requires some { 0 < node }
-    ensures { MatchOption result (Absent slots.now node) (λ at. (at < 1792) × (nodeAt slots.now at ≡ node)) }
+    ensures { MatchOption result (Absent slots.now node) (λ at. (at < 1792) × (node_at slots.now at ≡ node)) }
 {
     let one = first(node);
     if slots[one].node == node {

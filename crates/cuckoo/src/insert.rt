@@ -4,7 +4,7 @@ ghost use Rattle.std.specs.Prelude.{◌≡◌, ◌+◌, ◌<◌};
 ghost use Rattle.dictionary.specs.Pairs.{with_pair};
 ghost use Rattle.cuckoo.specs.Homes.{first_of};
 ghost use Rattle.cuckoo.specs.Layout.{Placed, Packed, Settles};
-ghost use Rattle.slots.specs.Slots.{linksOf, pairsOf, held, Apart, Absent};
+ghost use Rattle.slots.specs.Slots.{links_of, pairs_of, held, Apart, Absent};
 
 use crate::homes::{OVERFLOW, first, other};
 use slots::Slot;
@@ -26,7 +26,7 @@ pub(crate) fn insert(slots: &mut [Slot; 1792], spilled: u16, new: Slot) -> u16
     ensures apart { Apart slots.new }
     ensures packed { Packed slots.new result }
     ensures held { held slots.new ≡ held slots.old + 1 }
-    ensures pairs { pairsOf slots.new ≡ with_pair (pairsOf slots.old) new.node (linksOf new) }
+    ensures pairs { pairs_of slots.new ≡ with_pair (pairs_of slots.old) new.node (links_of new) }
 {
     let mut carried = new;
     let mut at = first(new.node);

@@ -3,7 +3,7 @@
 // every call relies on and keeps.
 ghost use Rattle.std.specs.Prelude.{◌≡◌, ◌^◌, ◌<◌, ◌≤◌, drop, refl};
 ghost use Rattle.cuckoo.specs.Layout.{Placed, Packed};
-ghost use Rattle.slots.specs.Slots.{pairsOf, nodesOf, held, Apart};
+ghost use Rattle.slots.specs.Slots.{pairs_of, nodes_of, held, Apart};
 ghost use Rattle.slots.proofs.Laws.{apart_nodes, pairs_among};
 ghost use Rattle.slots.proofs.Rows.{pairs_zero};
 ghost use Rattle.std.proofs.Common.{rules, arith};
@@ -42,9 +42,9 @@ impl Cuckoo {
 }
 
 impl Dictionary for Cuckoo {
-    ghost pairs = { λ d. pairsOf d.slots };
+    ghost pairs = { λ d. pairs_of d.slots };
 
-    ghost nodes = { λ d. nodesOf d.slots };
+    ghost nodes = { λ d. nodes_of d.slots };
 
     ghost room = { λ _. 768 };
 

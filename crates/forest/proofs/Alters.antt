@@ -22,7 +22,7 @@ use Rattle.buckets.specs.Tables.{Standing as TableStands}
 use Rattle.buckets.proofs.Lays.{all_apart}
 use Rattle.trees.specs.Counts.{times}
 use Rattle.trees.specs.Trees.{entries, places}
-use Rattle.trees.specs.Pools.{treeAt, Standing, Kept}
+use Rattle.trees.specs.Pools.{tree_at, Standing, Kept}
 use Rattle.trees.proofs.Pools.{places_long, same_tree, standing_kept}
 use Rattle.avl.specs.declared.pool.Pool.{Pool}
 use Rattle.avl.specs.Spares.{free, Shared}
@@ -114,7 +114,7 @@ module _ {roots sizes : ℕ → ℕ} (t : Table) (p : Pool) (u : Table) (q : Poo
   far_size i h = ap (λ g. g i) a.table.size ∙ a.size_far i h
 
   others : (i : ℕ) → among i (order_of t) ≡ true → Far ns i → tree_of u q i ≡ tree_of t p i
-  others i s h = ap (treeAt q.nodes) (far_root i h) ∙ same_tree p.nodes q.nodes ps a.nodes (root_of t i) (a.out i s h) (stand t p f i s)
+  others i s h = ap (tree_at q.nodes) (far_root i h) ∙ same_tree p.nodes q.nodes ps a.nodes (root_of t i) (a.out i s h) (stand t p f i s)
 
   others_stand : (i : ℕ) → among i (order_of t) ≡ true → Far ns i → Standing q.nodes (root_of u i)
   others_stand i s h = subst (Standing q.nodes) (sym (far_root i h)) (standing_kept p.nodes q.nodes ps a.nodes (root_of t i) (a.out i s h) (stand t p f i s))

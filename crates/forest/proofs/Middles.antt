@@ -16,7 +16,7 @@ use Rattle.buckets.specs.Tables.{size_of, root_of, order_of}
 use Rattle.trees.specs.declared.Node.{Node}
 use Rattle.trees.specs.Counts.{times}
 use Rattle.trees.specs.Trees.{entries, places}
-use Rattle.trees.specs.Pools.{nodeAt, entry_at, treeAt, entries_at, places_at}
+use Rattle.trees.specs.Pools.{node_at, entry_at, tree_at, entries_at, places_at}
 use Rattle.trees.proofs.Counts.{times_append, times_all}
 use Rattle.trees.proofs.Pools.{entries_are, places_long, same_tree, standing_kept, kept_then}
 use Rattle.avl.specs.declared.pool.Pool.{Pool}
@@ -41,7 +41,7 @@ first_drop (suc h) (e ∷ es) = first_drop h es
 -- a place of the row, which is the middle
 module _ (t : Table) (p : Pool) (n count h : ℕ) (row : List ℕ) (f : Forest t p) (i : among n (order_of t) ≡ true) (w : Walked (places_of t p n) count row) (half : h ≡ count / 2) where
   pub halving : h ≡ length (items_of t p n) / 2
-  halving = half ∙ ap (λ z. z / 2) (w.counted ∙ places_long (treeAt p.nodes (root_of t n)))
+  halving = half ∙ ap (λ z. z / 2) (w.counted ∙ places_long (tree_at p.nodes (root_of t n)))
 
   -- the row cut in front of the middle, and behind the nodes
   pub parted : (more : ℕ) (lower rest upper : List ℕ) → more + h ≡ count → lower ≡ take h row → rest ≡ drop h row → upper ≡ take more rest → Parted t p n h lower upper
@@ -56,7 +56,7 @@ module _ (t : Table) (p : Pool) (n count h : ℕ) (row : List ℕ) (f : Forest t
 
   module _ (some : 1 ≤ length (items_of t p n)) where
     short : h < length (places_of t p n)
-    short = omega (arith, w.counted, places_long (treeAt p.nodes (root_of t n)))
+    short = omega (arith, w.counted, places_long (tree_at p.nodes (root_of t n)))
 
     middle_at : get_or row h 0 ≡ get_or (places_of t p n) h 0
     middle_at = ap (λ l. get_or l h 0) w.begins ∙ get_or_append_left (places_of t p n) w.back 0 h short
@@ -66,13 +66,13 @@ module _ (t : Table) (p : Pool) (n count h : ℕ) (row : List ℕ) (f : Forest t
         let o = order_tree p.nodes (root_of t n) (stand t p f n i) in
         rw middle_at (All-get_or (λ x. x < 512) (places_of t p n) h 0 short (times_all (λ x. x < 512) (places_of t p n) (λ m z. omega (arith, o.inside m z, o.few))))
 
-    pub middle_is : (nodeAt p.nodes (get_or row h 0)).key ≡ (first (drop (length (items_of t p n) / 2) (items_of t p n))).key
+    pub middle_is : (node_at p.nodes (get_or row h 0)).key ≡ (first (drop (length (items_of t p n) / 2) (items_of t p n))).key
     middle_is =
-        ap (λ z. (nodeAt p.nodes z).key) middle_at
+        ap (λ z. (node_at p.nodes z).key) middle_at
         ∙ ap (λ (x : Entry). x.key) (sym (
         ap (λ z. first (drop z (items_of t p n))) (sym halving)
         ∙ first_drop h (items_of t p n)
-        ∙ ap (λ l. get_or l h blank) (entries_are p.nodes (treeAt p.nodes (root_of t n)) (stand t p f n i).lies)
+        ∙ ap (λ l. get_or l h blank) (entries_are p.nodes (tree_at p.nodes (root_of t n)) (stand t p f n i).lies)
         ∙ get_or-map (entry_at p.nodes) (places_of t p n) h 0 blank short
         ))
 
@@ -87,11 +87,11 @@ module _ (t : Table) (p : Pool) (n k h : ℕ) (ls us : List ℕ) (f : Forest t p
   pub halve_low : Order p.nodes ls
   halve_low = (order_parts p.nodes ls us order).0
 
-  module _ (ms : List Node) (a : ℕ) (ba : Built p.nodes ms ls a (treeAt ms a)) where
+  module _ (ms : List Node) (a : ℕ) (ba : Built p.nodes ms ls a (tree_at ms a)) where
     pub halve_high : Order ms us
     halve_high = order_kept p.nodes ms ls us ba.kept (λ m. omega (arith, times_append m ls us, order.apart m)) (order_parts p.nodes ls us order).1
 
-    module _ (u : Table) (q : Pool) (b x y : ℕ) (bb : Built ms q.nodes us b (treeAt q.nodes b)) (j : among k (order_of t) ≡ true) (ne : n ≡ k → ⊥) (empty : items_of t p k ≡ [])
+    module _ (u : Table) (q : Pool) (b x y : ℕ) (bb : Built ms q.nodes us b (tree_at q.nodes b)) (j : among k (order_of t) ≡ true) (ne : n ≡ k → ⊥) (empty : items_of t p k ≡ [])
         (w : Written t u (with_at (with_at (root_of t) n a) k b) (with_at (with_at (size_of t) n x) k y)) (lx : x ≡ length ls) (ly : y ≡ length us) (same : free q ≡ free p) where
       count : (m : ℕ) → times m (ls ++ us) ≡ times m ls + times m us
       count m = times_append m ls us
@@ -99,19 +99,19 @@ module _ (t : Table) (p : Pool) (n k h : ℕ) (ls us : List ℕ) (f : Forest t p
       apart : (m : ℕ) → times m (places_at ms a) + times m us ≤ 1
       apart m = omega (arith, count m, ba.spots m, order.apart m)
 
-      low_same : treeAt q.nodes a ≡ treeAt ms a
+      low_same : tree_at q.nodes a ≡ tree_at ms a
       low_same = same_tree ms q.nodes us bb.kept a apart ba.stands
 
       low_holds : entries_at q.nodes a ≡ take h (items_of t p n)
       low_holds = ap entries low_same ∙ ba.holds ∙ ap (map (entry_at p.nodes)) c.low ∙ sym (take-map (entry_at p.nodes) h (places_of t p n))
-          ∙ ap (take h) (sym (entries_are p.nodes (treeAt p.nodes (root_of t n)) (stand t p f n i).lies))
+          ∙ ap (take h) (sym (entries_are p.nodes (tree_at p.nodes (root_of t n)) (stand t p f n i).lies))
 
       high_holds : entries_at q.nodes b ≡ drop h (items_of t p n)
       high_holds = bb.holds ∙ map_kept p.nodes ms ls ba.kept us (λ m z. omega (arith, count m, order.apart m)) ∙ ap (map (entry_at p.nodes)) c.high ∙ sym (drop-map (entry_at p.nodes) h (places_of t p n))
-          ∙ ap (drop h) (sym (entries_are p.nodes (treeAt p.nodes (root_of t n)) (stand t p f n i).lies))
+          ∙ ap (drop h) (sym (entries_are p.nodes (tree_at p.nodes (root_of t n)) (stand t p f n i).lies))
 
       none : places_of t p k ≡ []
-      none = nil_from_length (places_of t p k) (places_long (treeAt p.nodes (root_of t k)) ∙ ap length empty)
+      none = nil_from_length (places_of t p k) (places_long (tree_at p.nodes (root_of t k)) ∙ ap length empty)
 
       halves : Both t p u q n k (take h (items_of t p n)) (drop h (items_of t p n))
       halves = both t p u q n k a b x y (ls ++ us) f i j ne w

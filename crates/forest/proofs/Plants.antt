@@ -21,7 +21,7 @@ use Rattle.buckets.proofs.Lays.{all_apart}
 use Rattle.trees.specs.declared.Node.{Node}
 use Rattle.trees.specs.Counts.{times}
 use Rattle.trees.specs.Trees.{entries, places}
-use Rattle.trees.specs.Pools.{treeAt, Standing, Kept}
+use Rattle.trees.specs.Pools.{tree_at, Standing, Kept}
 use Rattle.avl.specs.declared.pool.Pool.{Pool}
 use Rattle.avl.specs.declared.grow.Grown.{Grown}
 use Rattle.avl.specs.declared.cut.Shrunk.{Shrunk}
@@ -37,7 +37,7 @@ use Rattle.forest.proofs.Alters.{at_most, stand, sized, Written, Altered, kept_b
 module _ (t : Table) (p : Pool) (u : Table) (q : Pool) (n root size : ℕ) (ps : List ℕ) (f : Forest t p) (i : among n (order_of t) ≡ true)
     (w : Written t u (with_at (root_of t) n root) (with_at (size_of t) n size)) (k : Kept p.nodes q.nodes ps)
     (out : (x : ℕ) → among x (order_of t) ≡ true → (x ≡ n → ⊥) → (m : ℕ) → times m (places_of t p x) + times m ps ≤ 1)
-    (s : Standing q.nodes root) (es : List Entry) (holds : entries (treeAt q.nodes root) ≡ es) (long : size ≡ length es) where
+    (s : Standing q.nodes root) (es : List Entry) (holds : entries (tree_at q.nodes root) ≡ es) (long : size ≡ length es) where
   altered : Altered t p u q (with_at (root_of t) n root) (with_at (size_of t) n size) (n ∷ []) ps
   altered = record {
     table = w;
@@ -51,13 +51,13 @@ module _ (t : Table) (p : Pool) (u : Table) (q : Pool) (n root size : ℕ) (ps :
   root_is = ap (λ g. g n) w.root ∙ with_same (root_of t) n root n refl
 
   items_are : items_of u q n ≡ es
-  items_are = ap (λ z. entries (treeAt q.nodes z)) root_is ∙ holds
+  items_are = ap (λ z. entries (tree_at q.nodes z)) root_is ∙ holds
 
   size_is : size_of u n ≡ length (items_of u q n)
   size_is = ap (λ g. g n) w.size ∙ with_same (size_of t) n size n refl ∙ long ∙ ap length (sym items_are)
 
-  moved_count : (m : ℕ) → times m (used u q) + times m (places_of t p n) ≡ times m (used t p) + times m (places (treeAt q.nodes root))
-  moved_count m = omega (arith, one_moved t p u q (n ∷ []) ps f altered n refl i m, ap (λ z. times m (places (treeAt q.nodes z))) root_is)
+  moved_count : (m : ℕ) → times m (used u q) + times m (places_of t p n) ≡ times m (used t p) + times m (places (tree_at q.nodes root))
+  moved_count m = omega (arith, one_moved t p u q (n ∷ []) ps f altered n refl i m, ap (λ z. times m (places (tree_at q.nodes z))) root_is)
 
   replanted : Shared (used u q) (free q) → Replanted t p u q n es
   replanted sh = record {
@@ -76,11 +76,11 @@ module _ (t : Table) (p o : Pool) (n fresh root : ℕ) (e : Entry) (f : Forest t
     new = new;
   }))
 
-  module _ (u : Table) (q : Pool) (size : ℕ) (r : Grown) (kept : free q ≡ free o) (g : Grew o.nodes q.nodes r fresh e (treeAt o.nodes root) (treeAt q.nodes r.root))
+  module _ (u : Table) (q : Pool) (size : ℕ) (r : Grown) (kept : free q ≡ free o) (g : Grew o.nodes q.nodes r fresh e (tree_at o.nodes root) (tree_at q.nodes r.root))
       (w : Written t u (with_at (root_of t) n r.root) (with_at (size_of t) n size)) (more : size ≡ size_of t n + 1) where
-    grew : Grew p.nodes q.nodes r fresh e (tree_of t p n) (treeAt q.nodes r.root)
-    grew = subst (λ x. Grew p.nodes q.nodes r fresh e (treeAt p.nodes x) (treeAt q.nodes r.root)) is
-        (subst (λ ns. Grew ns q.nodes r fresh e (treeAt ns root) (treeAt q.nodes r.root)) same g)
+    grew : Grew p.nodes q.nodes r fresh e (tree_of t p n) (tree_at q.nodes r.root)
+    grew = subst (λ x. Grew p.nodes q.nodes r fresh e (tree_at p.nodes x) (tree_at q.nodes r.root)) is
+        (subst (λ ns. Grew ns q.nodes r fresh e (tree_at ns root) (tree_at q.nodes r.root)) same g)
 
     pub grown : Replanted t p u q n (put e (items_of t p n))
     grown =
@@ -96,20 +96,20 @@ module _ (t : Table) (p : Pool) (n root key : ℕ) (f : Forest t p) (i : among n
   pub shrink_ready : Held p.nodes root key
   shrink_ready = subst (λ x. Held p.nodes x key) (sym is) (record { stands = stand t p f n i; held = held })
 
-  module _ (ms : List Node) (r : Shrunk) (g : Shrank p.nodes ms r key (treeAt p.nodes root) (treeAt ms r.root)) where
-    shrank : Shrank p.nodes ms r key (tree_of t p n) (treeAt ms r.root)
-    shrank = subst (λ x. Shrank p.nodes ms r key (treeAt p.nodes x) (treeAt ms r.root)) is g
+  module _ (ms : List Node) (r : Shrunk) (g : Shrank p.nodes ms r key (tree_at p.nodes root) (tree_at ms r.root)) where
+    shrank : Shrank p.nodes ms r key (tree_of t p n) (tree_at ms r.root)
+    shrank = subst (λ x. Shrank p.nodes ms r key (tree_at p.nodes x) (tree_at ms r.root)) is g
 
     pub one_more : size_of t n ≡ length (without key (items_of t p n)) + 1
     one_more = omega (arith, sized t p f n i, without_long key (items_of t p n), ap length shrank.held)
 
     pub left : List ℕ
-    left = flat_map (λ x. cond (eqb x n) (places (treeAt ms r.root)) (places_of t p x)) (order_of t)
+    left = flat_map (λ x. cond (eqb x n) (places (tree_at ms r.root)) (places_of t p x)) (order_of t)
 
-    left_count : (m : ℕ) → times m left + times m (places_of t p n) ≡ times m (used t p) + times m (places (treeAt ms r.root))
+    left_count : (m : ℕ) → times m left + times m (places_of t p n) ≡ times m (used t p) + times m (places (tree_at ms r.root))
     unfolding left
     left_count m =
-        let ps : List ℕ = places (treeAt ms r.root) in
+        let ps : List ℕ = places (tree_at ms r.root) in
         let G : ℕ → List ℕ = λ x. cond (eqb x n) ps (places_of t p x) in
         let c = shares.moved m (places_of t p) G (order_of t) n (all_apart t f.table) i (λ x _ ne. ap (times m) (cond-false (eqb x n) ps (places_of t p x) (ne_eqb x n ne))) in
         omega (arith, c, ap (times m) (cond-true (eqb n n) ps (places_of t p n) (eq-eqb n n refl)))
@@ -120,13 +120,13 @@ module _ (t : Table) (p : Pool) (n root key : ℕ) (f : Forest t p) (i : among n
     module _ (u : Table) (q : Pool) (size : ℕ) (ends : q.nodes ≡ ms) (sh : Shared left (free q)) (w : Written t u (with_at (root_of t) n r.root) (with_at (size_of t) n size)) (fewer : size ≡ size_of t n - 1) where
       pub shrunk : Replanted t p u q n (without key (items_of t p n))
       shrunk =
-          let ps : List ℕ = places (treeAt ms r.root) in
+          let ps : List ℕ = places (tree_at ms r.root) in
           let out : (x : ℕ) → among x (order_of t) ≡ true → (x ≡ n → ⊥) → (m : ℕ) → times m (places_of t p x) + times m ps ≤ 1 =
           λ x a ne m. omega (arith, two_parts (places_of t p) m (order_of t) x n a i ne, f.shared m, at_most m, shrank.lost.spots m) in
           let long : size ≡ length (without key (items_of t p n)) = omega (arith, fewer, one_more) in
           let k : Kept p.nodes q.nodes ps = subst (λ xs. Kept p.nodes xs ps) (sym ends) shrank.lost.kept in
           let s : Standing q.nodes r.root = subst (λ xs. Standing xs r.root) (sym ends) shrank.lost.stands in
-          let h : entries (treeAt q.nodes r.root) ≡ without key (items_of t p n) = ap (λ xs. entries (treeAt xs r.root)) ends ∙ shrank.holds in
+          let h : entries (tree_at q.nodes r.root) ≡ without key (items_of t p n) = ap (λ xs. entries (tree_at xs r.root)) ends ∙ shrank.holds in
           let count = moved_count t p u q n r.root size ps f i w k out s (without key (items_of t p n)) h long in
           replanted t p u q n r.root size ps f i w k out s (without key (items_of t p n)) h long
-          (λ m. omega (arith, count m, left_count m, sh m, ap (λ xs. times m (places (treeAt xs r.root))) ends))
+          (λ m. omega (arith, count m, left_count m, sh m, ap (λ xs. times m (places (tree_at xs r.root))) ends))

@@ -12,7 +12,7 @@ use Rattle.buckets.specs.declared.Table.{Table}
 use Rattle.buckets.specs.Tables.{size_of, root_of, order_of}
 use Rattle.trees.specs.Counts.{times}
 use Rattle.trees.specs.Trees.{leaf, entries, places}
-use Rattle.trees.specs.Pools.{entry_at, treeAt, entries_at, places_at}
+use Rattle.trees.specs.Pools.{entry_at, tree_at, entries_at, places_at}
 use Rattle.trees.proofs.Counts.{times_append}
 use Rattle.trees.proofs.Pools.{entries_are, standing_none, end_is}
 use Rattle.avl.specs.declared.pool.Pool.{Pool}
@@ -45,13 +45,13 @@ module _ (t : Table) (p : Pool) (n k : ℕ) (f : Forest t p) (i : among n (order
     pub unite_ready : Order p.nodes all
     unite_ready = subst (Order p.nodes) (sym is) both_order
 
-    pub united : (u : Table) (q : Pool) (root x y : ℕ) → Built p.nodes q.nodes all root (treeAt q.nodes root) →
+    pub united : (u : Table) (q : Pool) (root x y : ℕ) → Built p.nodes q.nodes all root (tree_at q.nodes root) →
         Written t u (with_at (with_at (root_of t) n root) k 65535) (with_at (with_at (size_of t) n x) k y) → x ≡ count → y ≡ 0 → free q ≡ free p → United t p u q n k
     united u q root x y bu v long none same =
         let es : entries_at q.nodes root ≡ items_of t p n ++ items_of t p k =
         bu.holds ∙ ap (map (entry_at p.nodes)) is ∙ map-append (entry_at p.nodes) (places_of t p n) (places_of t p k)
         ∙ sym both_entries in
-        let leafless : treeAt q.nodes 65535 ≡ leaf = end_is q.nodes 65535 refl in
+        let leafless : tree_at q.nodes 65535 ≡ leaf = end_is q.nodes 65535 refl in
         let r : Both t p u q n k (items_of t p n ++ items_of t p k) [] =
         both t p u q n k root 65535 x y all f i j ne v bu.kept (λ m. ap (times m) is ∙ times_append m (places_of t p n) (places_of t p k))
         (λ m. omega (arith, bu.spots m, ap (λ z. times m (places z)) leafless)) bu.stands (standing_none q.nodes bu.stands.few)

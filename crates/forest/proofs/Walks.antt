@@ -9,7 +9,7 @@ use Rattle.std.proofs.lemmas.List.{append_assoc, take_at}
 use Rattle.dictionary.specs.Pairs.{among}
 use Rattle.buckets.specs.declared.Table.{Table}
 use Rattle.buckets.specs.Tables.{root_of, order_of}
-use Rattle.trees.specs.Pools.{treeAt, places_at, Standing}
+use Rattle.trees.specs.Pools.{tree_at, places_at, Standing}
 use Rattle.trees.specs.Answers.{laid}
 use Rattle.trees.proofs.Pools.{places_long, size}
 use Rattle.trees.proofs.Rows.{laid_long, laid_parts}
@@ -42,7 +42,7 @@ module _ (t : Table) (p : Pool) (n root : ℕ) (f : Forest t p) (i : among n (or
   walk_ready = subst (Standing p.nodes) (sym is) (stand t p f n i)
 
   pub walk_room : length (places_at p.nodes root) ≤ 512
-  walk_room = omega (arith, places_long (treeAt p.nodes root), size p.nodes root walk_ready)
+  walk_room = omega (arith, places_long (tree_at p.nodes root), size p.nodes root walk_ready)
 
   pub walk_behind : (ps row next : List ℕ) (start count : ℕ) → Walked ps start row → start + length (places_at p.nodes root) ≤ 512 → next ≡ laid row start (places_at p.nodes root) →
       count ≡ start + length (places_at p.nodes root) → Walked (ps ++ places_of t p n) count next

@@ -19,12 +19,12 @@ use Rattle.buckets.specs.declared.Table.{Table}
 use Rattle.buckets.specs.Tables.{rep_of, size_of, root_of, prev_of, next_of, order_of}
 use Rattle.buckets.specs.Tables.{Standing as TableStands}
 use Rattle.trees.specs.Trees.{Tree, entries, places}
-use Rattle.trees.specs.Pools.{treeAt, Standing}
+use Rattle.trees.specs.Pools.{tree_at, Standing}
 use Rattle.avl.specs.declared.pool.Pool.{Pool}
 use Rattle.avl.specs.Spares.{free, Shared}
 
 abbrev pub tree_of : Table → Pool → ℕ → Tree
-tree_of t p n = treeAt p.nodes (root_of t n)
+tree_of t p n = tree_at p.nodes (root_of t n)
 
 abbrev pub items_of : Table → Pool → ℕ → List Entry
 items_of t p n = entries (tree_of t p n)

@@ -11,7 +11,7 @@ use Rattle.trees.proofs.Pools.{places_long}
 use Rattle.buckets.specs.declared.Table.{Table}
 use Rattle.buckets.specs.Tables.{rep_of, size_of, root_of, order_of, Shows}
 use Rattle.trees.specs.Trees.{Tree, entries, places}
-use Rattle.trees.specs.Pools.{treeAt, Standing}
+use Rattle.trees.specs.Pools.{tree_at, Standing}
 use Rattle.avl.specs.declared.pool.Pool.{Pool}
 use Rattle.avl.specs.Spares.{free, Shared}
 use Rattle.forest.specs.Forests.{tree_of, items_of, places_of, row_of, used, Forest, KeptBut, United}
@@ -53,7 +53,7 @@ module _ (t u v : Table) (p q : Pool) (n m : ℕ) (pre post : List ℕ) (cut : o
       ∙ (cut_without (rep_of t) m (pre ++ n ∷ []) post (subst (Rising (rep_of t)) (cut ∙ front_is) rises) ∙ append_assoc pre (n ∷ []) post))
 
   tree_v : (x : ℕ) → tree_of v q x ≡ tree_of u q x
-  tree_v x = ap (λ g. treeAt q.nodes (g x)) sh.root
+  tree_v x = ap (λ g. tree_at q.nodes (g x)) sh.root
 
   pub forest_v : Forest v q
   forest_v =
@@ -63,10 +63,10 @@ module _ (t u v : Table) (p q : Pool) (n m : ℕ) (pre post : List ℕ) (cut : o
         trees = subst (λ (g : ℕ → ℕ). All (λ x. Standing q.nodes (g x)) (order_of v)) (sym sh.root) (out (λ x. Standing q.nodes (root_of u x)) un.forest.trees);
         sizes =
             subst (λ (h : ℕ → ℕ). All (λ x. h x ≡ length (items_of v q x)) (order_of v)) (sym sh.size)
-            (subst (λ (g : ℕ → ℕ). All (λ x. size_of u x ≡ length (entries (treeAt q.nodes (g x)))) (order_of v)) (sym sh.root)
+            (subst (λ (g : ℕ → ℕ). All (λ x. size_of u x ≡ length (entries (tree_at q.nodes (g x)))) (order_of v)) (sym sh.root)
             (out (λ x. size_of u x ≡ length (items_of u q x)) un.forest.sizes));
         shared = subst (λ l. Shared l (free q)) (sym
-            (ap (λ (g : ℕ → ℕ). flat_map (λ x. places (treeAt q.nodes (g x))) (order_of v)) sh.root
+            (ap (λ (g : ℕ → ℕ). flat_map (λ x. places (tree_at q.nodes (g x))) (order_of v)) sh.root
             ∙ (ap (flat_map (places_of u q)) (order_v ∙ sym (append_assoc pre (n ∷ []) post))
             ∙ (sym (joined_out (places_of u q) m (pre ++ n ∷ []) post (places_none (tree_of u q m) un.none))
             ∙ ap (flat_map (places_of u q)) (sym order_u))))) un.forest.shared;

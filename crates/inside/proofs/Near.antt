@@ -18,7 +18,7 @@ use Rattle.forest.specs.Forests.{Forest, tree_of, items_of}
 use Rattle.rows.specs.Rows.{ahead, back}
 use Rattle.trees.specs.declared.Found.{Found}
 use Rattle.trees.specs.Trees.{leaf, tall, seen, low_way, high_way}
-use Rattle.trees.specs.Pools.{Standing, treeAt, entries_at}
+use Rattle.trees.specs.Pools.{Standing, tree_at, entries_at}
 use Rattle.trees.specs.Answers.{Saw, foremost, hindmost}
 use Rattle.trees.proofs.Pools.{low}
 use Rattle.inside.specs.Near.{Above, Below}
@@ -122,16 +122,16 @@ module _ (t : Table) (p : Pool) (fo : Forest t p) (n : ℕ) (held : among n (ord
   prev_stands m r h em e = subst (Standing p.nodes) (sym (e ∙ ap (root_of t) em)) (prev_has t fo.table (λ m. Standing p.nodes (root_of t m)) n held h fo.trees)
 
 -- the visits of two trees fit
-pub few_visits : (p : Pool) (r₁ r₂ v₁ v₂ : ℕ) → Standing p.nodes r₁ → Standing p.nodes r₂ → v₁ ≤ tall (treeAt p.nodes r₁) → v₂ ≤ tall (treeAt p.nodes r₂) → v₁ + v₂ ≤ 24
+pub few_visits : (p : Pool) (r₁ r₂ v₁ v₂ : ℕ) → Standing p.nodes r₁ → Standing p.nodes r₂ → v₁ ≤ tall (tree_at p.nodes r₁) → v₂ ≤ tall (tree_at p.nodes r₂) → v₁ + v₂ ≤ 24
 few_visits p r₁ r₂ v₁ v₂ s₁ s₂ h₁ h₂ = omega (arith, low p.nodes r₁ _ s₁, low p.nodes r₂ _ s₂)
 
 -- ---- the entry near a key
 module _ (t : Table) (p : Pool) (fo : Forest t p) (n k : ℕ) (pre post : List ℕ) (is : order_of t ≡ pre ++ n ∷ post) where
   abbrev HereAbove : Found → ℕ → Type 0
-  HereAbove h r = Saw h (foremost (from k (entries_at p.nodes r))) (seen k (treeAt p.nodes r)) (treeAt p.nodes r)
+  HereAbove h r = Saw h (foremost (from k (entries_at p.nodes r))) (seen k (tree_at p.nodes r)) (tree_at p.nodes r)
 
   abbrev HereBelow : Found → ℕ → Type 0
-  HereBelow h r = Saw h (hindmost (upto k (entries_at p.nodes r))) (seen k (treeAt p.nodes r)) (treeAt p.nodes r)
+  HereBelow h r = Saw h (hindmost (upto k (entries_at p.nodes r))) (seen k (tree_at p.nodes r)) (tree_at p.nodes r)
 
   pub above_here : (h : Found) (r : ℕ) → r ≡ root_of t n → HereAbove h r → is_some h.entry ≡ true → Above h t p n k post
   above_here h r e w some =
@@ -148,14 +148,14 @@ module _ (t : Table) (p : Pool) (fo : Forest t p) (n k : ℕ) (pre post : List �
       (record { entry = v.entry ∙ ap foremost (sym (append-nil xs)); visits = omega (arith, v.visits, nothing_else (filled xs)) })
 
   pub above_there : (h g : Found) (r m q : ℕ) → r ≡ root_of t n → HereAbove h r → is_some h.entry ≡ false → m ≡ next_of t n → (m ≡ 0 → ⊥) →
-      q ≡ root_of t m → Saw g (foremost (entries_at p.nodes q)) (low_way (treeAt p.nodes q)) (treeAt p.nodes q) →
+      q ≡ root_of t m → Saw g (foremost (entries_at p.nodes q)) (low_way (tree_at p.nodes q)) (tree_at p.nodes q) →
       Above (record { entry = g.entry; visits = h.visits + g.visits }) t p n k post
   above_there h g r m q e w none em z eq u =
       let xs = from k (items_of t p n) in
       let v = subst (HereAbove h) e w in
       let f : filled xs ≡ false = sym (filled_first xs) ∙ (sym (ap is_some v.entry) ∙ none) in
       let at : q ≡ root_of t (next_of t n) = eq ∙ ap (root_of t) em in
-      let y = subst (λ r. Saw g (foremost (entries_at p.nodes r)) (low_way (treeAt p.nodes r)) (treeAt p.nodes r)) at u in
+      let y = subst (λ r. Saw g (foremost (entries_at p.nodes r)) (low_way (tree_at p.nodes r)) (tree_at p.nodes r)) at u in
       let there : next_of t n ≡ 0 → ⊥ = λ e. z (em ∙ e) in
       record {
         entry = y.entry ∙ (ap foremost (sym (some_behind t fo.table pre n post is there [] (items_of t p))) ∙ front_none xs _ f);
@@ -177,14 +177,14 @@ module _ (t : Table) (p : Pool) (fo : Forest t p) (n k : ℕ) (pre post : List �
       (record { entry = v.entry; visits = omega (arith, v.visits, nothing_else (filled xs)) })
 
   pub below_there : (h g : Found) (r m q : ℕ) → r ≡ root_of t n → HereBelow h r → is_some h.entry ≡ false → 0 < n → m ≡ prev_of t n →
-      q ≡ root_of t m → Saw g (hindmost (entries_at p.nodes q)) (high_way (treeAt p.nodes q)) (treeAt p.nodes q) →
+      q ≡ root_of t m → Saw g (hindmost (entries_at p.nodes q)) (high_way (tree_at p.nodes q)) (tree_at p.nodes q) →
       Below (record { entry = g.entry; visits = h.visits + g.visits }) t p n k pre
   below_there h g r m q e w none z em eq u =
       let xs = upto k (items_of t p n) in
       let v = subst (HereBelow h) e w in
       let f : filled xs ≡ false = sym (filled_last xs) ∙ (sym (ap is_some v.entry) ∙ none) in
       let at : q ≡ root_of t (prev_of t n) = eq ∙ ap (root_of t) em in
-      let y = subst (λ r. Saw g (hindmost (entries_at p.nodes r)) (high_way (treeAt p.nodes r)) (treeAt p.nodes r)) at u in
+      let y = subst (λ r. Saw g (hindmost (entries_at p.nodes r)) (high_way (tree_at p.nodes r)) (tree_at p.nodes r)) at u in
       record {
         entry = y.entry ∙ (ap hindmost (sym (some_before t fo.table pre n post is z [] (items_of t p))) ∙ rear_none _ xs f);
         visits = omega (arith, v.visits, y.visits, ap high_way (some_before t fo.table pre n post is z leaf (tree_of t p)), cond-false (filled xs) 0 (high_way (back leaf (tree_of t p) pre)) f);

@@ -11,7 +11,7 @@ use Rattle.buckets.specs.Tables.{rep_of, size_of, root_of, order_of, no_tree, Sh
 use Rattle.trees.specs.declared.Node.{Node}
 use Rattle.trees.specs.Counts.{times}
 use Rattle.trees.specs.Trees.{Tree, leaf, entries, places}
-use Rattle.trees.specs.Pools.{treeAt, Standing, Stands}
+use Rattle.trees.specs.Pools.{tree_at, Standing, Stands}
 use Rattle.trees.proofs.Pools.{end_is, standing_none}
 use Rattle.avl.specs.declared.pool.Pool.{Pool}
 use Rattle.avl.specs.Spares.{free, Shared}
@@ -50,7 +50,7 @@ module _ (t u : Table) (p : Pool) (n m r : ℕ) (pre post : List ℕ) (fo : Fore
   root_other x o = ap (λ g. g x) sh.root ∙ with_other (root_of t) m no_tree x o
 
   pub tree_other : (x : ℕ) → Not m x → tree_of u p x ≡ tree_of t p x
-  tree_other x o = ap (treeAt p.nodes) (root_other x o)
+  tree_other x o = ap (tree_at p.nodes) (root_other x o)
 
   pub tree_new : tree_of u p m ≡ leaf
   tree_new = end_is p.nodes (root_of u m) (ap (λ g. g m) sh.root ∙ with_same (root_of t) m no_tree m refl)

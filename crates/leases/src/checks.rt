@@ -1,7 +1,7 @@
 // What is wrong with a command's keys, before any frame: one is too large for its kind, or a lease's two
 // keys are out of order or on two pistes.
 ghost use Rattle.std.specs.Prelude.{◌≡◌};
-ghost use Rattle.leases.specs.Checks.{early as early_of, unfit as unfit-of};
+ghost use Rattle.leases.specs.Checks.{early as early_of, unfit as unfit_of};
 
 use ordered::Refusal;
 use wire::Command;
@@ -32,7 +32,7 @@ pub fn early(command: Command) -> Option<Refusal>
 
 // The two ends of a lease: their size, then their order, then their piste.
 fn unfit(first: u64, second: u64) -> Option<Refusal>
-    ensures { result ≡ unfit-of first second }
+    ensures { result ≡ unfit_of first second }
 {
     if first >= STATIONS || second >= STATIONS {
         Some(Refusal::TooLarge)

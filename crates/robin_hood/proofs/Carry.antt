@@ -2,7 +2,7 @@
 use Rattle.std.proofs.Common.{◌≡◌, ℕ, ◌+◌, ◌-◌, ◌%◌, ◌<◌, ◌≤◌, List, length, get_or, set, refl, ap, subst, ⊎_elim, arith}
 use Rattle.std.proofs.lemmas.Bool.{cases_lt, cases_eq}
 use Rattle.slots.specs.declared.Slot.{Slot}
-use Rattle.slots.specs.Slots.{blank, nodeAt, held, Apart, Absent}
+use Rattle.slots.specs.Slots.{blank, node_at, held, Apart, Absent}
 use Rattle.slots.proofs.Rows.{node_same, node_other}
 use Rattle.slots.proofs.Counts.{held_all}
 use Rattle.slots.proofs.Carried.{Carried, carried_start, swapped}
@@ -14,7 +14,7 @@ use Rattle.robin_hood.proofs.Rings.{home_below, rank_step, rank_home, spread_set
 pub record Carrying (xs₀ : List Slot) (new : Slot) (h : ℕ) (xs : List Slot) (c : Slot) (k : ℕ) : Type 0 where
   pub carried : Carried 1024 xs₀ new xs c
   pub spread : Spread xs
-  pub passed : (j : ℕ) → j < k → 0 < nodeAt xs ((h + j) % 1024)
+  pub passed : (j : ℕ) → j < k → 0 < node_at xs ((h + j) % 1024)
   pub fits : rank_of ((h + k) % 1024) c.node ≤ rank_at xs ((h + k + 1023) % 1024) + 1
 
 pub carry_start : (xs : List Slot) (c : Slot) (h : ℕ) → h ≡ home_of c.node → length xs ≡ 1024 → Spread xs → Apart xs → 0 < c.node → Absent xs c.node → Carrying xs c h xs c 0
@@ -27,7 +27,7 @@ module _ {xs₀ : List Slot} {new : Slot} {h : ℕ} {xs : List Slot} {c : Slot} 
   at_within = omega (arith, s.carried.long)
 
   -- the resident stays
-  pub carry_pass : 0 < nodeAt xs ((h + k) % 1024) → rank_of ((h + k) % 1024) c.node ≤ rank_at xs ((h + k) % 1024) → Carrying xs₀ new h xs c (k + 1)
+  pub carry_pass : 0 < node_at xs ((h + k) % 1024) → rank_of ((h + k) % 1024) c.node ≤ rank_at xs ((h + k) % 1024) → Carrying xs₀ new h xs c (k + 1)
   carry_pass taken stays =
       let e : (h + (k + 1)) % 1024 ≡ (h + k + 1) % 1024 = omega arith in
       let f : (h + (k + 1) + 1023) % 1024 ≡ (h + k) % 1024 = omega arith in
@@ -42,11 +42,11 @@ module _ {xs₀ : List Slot} {new : Slot} {h : ℕ} {xs : List Slot} {c : Slot} 
   put_spread up = spread_set xs (h + k) c s.carried.long s.spread s.fits up
 
   -- the pair carried goes into the empty slot
-  pub end_spread : nodeAt xs ((h + k) % 1024) ≡ 0 → Spread (set xs ((h + k) % 1024) c)
-  end_spread empty = put_spread (omega (arith, rank_zero ((h + k) % 1024) (nodeAt xs ((h + k) % 1024)) empty))
+  pub end_spread : node_at xs ((h + k) % 1024) ≡ 0 → Spread (set xs ((h + k) % 1024) c)
+  end_spread empty = put_spread (omega (arith, rank_zero ((h + k) % 1024) (node_at xs ((h + k) % 1024)) empty))
 
   -- the pair carried changes places with the resident
-  pub carry_swap : 0 < nodeAt xs ((h + k) % 1024) → rank_at xs ((h + k) % 1024) ≤ rank_of ((h + k) % 1024) c.node → Carrying xs₀ new h (set xs ((h + k) % 1024) c) (get_or xs ((h + k) % 1024) blank) (k + 1)
+  pub carry_swap : 0 < node_at xs ((h + k) % 1024) → rank_at xs ((h + k) % 1024) ≤ rank_of ((h + k) % 1024) c.node → Carrying xs₀ new h (set xs ((h + k) % 1024) c) (get_or xs ((h + k) % 1024) blank) (k + 1)
   carry_swap taken less =
       let p : ℕ = (h + k) % 1024 in
       let e : (h + (k + 1)) % 1024 ≡ (h + k + 1) % 1024 = omega arith in
@@ -56,12 +56,12 @@ module _ {xs₀ : List Slot} {new : Slot} {h : ℕ} {xs : List Slot} {c : Slot} 
         spread = put_spread (omega arith);
         passed = λ j l.
             ⊎_elim
-            (λ (a : (h + j) % 1024 ≡ p). omega (arith, ap (nodeAt (set xs p c)) a, node_same xs p c at_within, s.carried.some))
+            (λ (a : (h + j) % 1024 ≡ p). omega (arith, ap (node_at (set xs p c)) a, node_same xs p c at_within, s.carried.some))
             (λ (na : (h + j) % 1024 ≡ p → ⊥).
             let b : j < k = ⊎_elim (λ (b : j < k). b) (λ (b : k ≤ j). let q : j ≡ k = omega arith in absurd (na (ap (λ x. (h + x) % 1024) q))) (cases_lt j k) in
             omega (arith, node_other xs p c at_within ((h + j) % 1024) na, s.passed j b))
             (cases_eq ((h + j) % 1024) p);
-        fits = rw (e, f) (omega (arith, rank_step (nodeAt xs p) (h + k), rank_same xs p c at_within p refl));
+        fits = rw (e, f) (omega (arith, rank_step (node_at xs p) (h + k), rank_same xs p c at_within p refl));
       }
 
   -- the walk does not pass all the slots, since one is empty
@@ -71,5 +71,5 @@ module _ {xs₀ : List Slot} {new : Slot} {h : ℕ} {xs : List Slot} {c : Slot} 
       let j : ℕ = (i + 1024 - h % 1024) % 1024 in
       let e : (h + j) % 1024 ≡ i = omega (arith, s.carried.long) in
       let b : j < k = omega arith in
-      subst (λ (x : ℕ). 0 < nodeAt xs x) e (s.passed j b)) in
+      subst (λ (x : ℕ). 0 < node_at xs x) e (s.passed j b)) in
       omega (arith, s.carried.long, s.carried.count)

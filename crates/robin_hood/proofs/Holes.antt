@@ -2,7 +2,7 @@
 use Rattle.std.proofs.Common.{◌≡◌, ℕ, ◌+◌, ◌-◌, ◌%◌, ◌<◌, ◌≤◌, ◌≢◌, List, length, get_or, set, sym, refl, ap, ◌∙◌, subst, ⊎_elim, arith, length-set}
 use Rattle.std.proofs.lemmas.Bool.{cases_lt, cases_eq}
 use Rattle.slots.specs.declared.Slot.{Slot}
-use Rattle.slots.specs.Slots.{blank, nodeAt, pairsOf, held, Apart}
+use Rattle.slots.specs.Slots.{blank, node_at, pairs_of, held, Apart}
 use Rattle.robin_hood.specs.Layout.{rank_at, Spread}
 use Rattle.slots.proofs.Rows.{node_same, node_other, out_apart}
 use Rattle.slots.proofs.Moves.{move_apart, move_held, move_pairs}
@@ -13,15 +13,15 @@ use Rattle.robin_hood.proofs.Rings.{rank_back, rank_zero, rank_same, rank_other}
 pub record Hole (xs₀ : List Slot) (b : ℕ) (xs : List Slot) (k : ℕ) : Type 0 where
   pub long : length xs ≡ 1024
   pub apart : Apart xs
-  pub hole : nodeAt xs ((b + k) % 1024) ≡ 0
+  pub hole : node_at xs ((b + k) % 1024) ≡ 0
   pub count : held xs ≡ held xs₀
-  pub pairs : (m : ℕ) → pairsOf xs m ≡ pairsOf xs₀ m
-  pub passed : (j : ℕ) → j < k → 0 < nodeAt xs ((b + j) % 1024)
+  pub pairs : (m : ℕ) → pairs_of xs m ≡ pairs_of xs₀ m
+  pub passed : (j : ℕ) → j < k → 0 < node_at xs ((b + j) % 1024)
   pub spread : (j : ℕ) → j % 1024 ≢ (b + k) % 1024 → rank_at xs ((j + 1) % 1024) ≤ rank_at xs (j % 1024) + 1
   pub gap : rank_at xs ((b + k + 1) % 1024) ≤ rank_at xs ((b + k + 1023) % 1024) + 2
 
 -- the pair in the slot b is taken out
-module _ (xs : List Slot) (b : ℕ) (long : length xs ≡ 1024) (spread : Spread xs) (apart : Apart xs) (within : b < 1024) (taken : 0 < nodeAt xs b) where
+module _ (xs : List Slot) (b : ℕ) (long : length xs ≡ 1024) (spread : Spread xs) (apart : Apart xs) (within : b < 1024) (taken : 0 < node_at xs b) where
   b_within : b < length xs
   b_within = omega arith
 
@@ -106,13 +106,13 @@ module _ {xs₀ : List Slot} {b : ℕ} {xs : List Slot} {k : ℕ} (s : Hole xs�
         record {
           long = length-set ys p f ∙ length-set xs n blank ∙ s.long;
           apart = move_apart xs n p n_within (omega (arith, s.long)) p_n s.hole f_some s.apart;
-          hole = ap (nodeAt (set ys p f)) e₀ ∙ node_other ys p f p_within n (λ e. p_n (sym e)) ∙ node_same xs n blank n_within;
+          hole = ap (node_at (set ys p f)) e₀ ∙ node_other ys p f p_within n (λ e. p_n (sym e)) ∙ node_same xs n blank n_within;
           count = move_held xs n p n_within (omega (arith, s.long)) p_n s.hole f_some s.apart ∙ s.count;
           pairs = λ m. move_pairs xs n p n_within (omega (arith, s.long)) p_n s.hole f_some s.apart m ∙ s.pairs m;
           passed = λ j l.
               let nn : (b + j) % 1024 ≢ n = omega arith in
               ⊎_elim
-              (λ (a : (b + j) % 1024 ≡ p). omega (arith, ap (nodeAt (set ys p f)) a, node_same ys p f p_within, f_some))
+              (λ (a : (b + j) % 1024 ≡ p). omega (arith, ap (node_at (set ys p f)) a, node_same ys p f p_within, f_some))
               (λ (na : (b + j) % 1024 ≡ p → ⊥).
               let l' : j < k = ⊎_elim (λ (l' : j < k). l') (λ (g : k ≤ j). let q : j ≡ k = omega arith in absurd (na (ap (λ x. (b + x) % 1024) q))) (cases_lt j k) in
               omega (arith, node_other ys p f p_within ((b + j) % 1024) na, node_other xs n blank n_within ((b + j) % 1024) nn, s.passed j l'))
@@ -149,12 +149,12 @@ module _ {xs₀ : List Slot} {b : ℕ} {xs : List Slot} {k : ℕ} (s : Hole xs�
       let h : p < length xs = omega (arith, s.long) in
       let full : held (set xs p one) ≡ length (set xs p one) = held_all (set xs p one) (λ i l.
       ⊎_elim
-      (λ (a : i ≡ p). omega (arith, ap (nodeAt (set xs p one)) a, node_same xs p one h))
+      (λ (a : i ≡ p). omega (arith, ap (node_at (set xs p one)) a, node_same xs p one h))
       (λ (na : i ≡ p → ⊥).
       let j : ℕ = (i + 1024 - b % 1024) % 1024 in
       let l' : i < 1024 = omega (arith, s.long, length-set xs p one) in
       let e : (b + j) % 1024 ≡ i = omega arith in
       let g : j < k = ⊎_elim (λ (g : j < k). g) (λ (g : k ≤ j). let q : j ≡ k = omega arith in absurd (na (sym e ∙ ap (λ x. (b + x) % 1024) q))) (cases_lt j k) in
-      omega (arith, node_other xs p one h i na, subst (λ (x : ℕ). 0 < nodeAt xs x) e (s.passed j g)))
+      omega (arith, node_other xs p one h i na, subst (λ (x : ℕ). 0 < node_at xs x) e (s.passed j g)))
       (cases_eq i p)) in
       omega (arith, s.long, s.count, length-set xs p one, held_more xs p one h s.hole (omega arith))

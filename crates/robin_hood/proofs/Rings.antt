@@ -3,8 +3,8 @@ use Rattle.std.proofs.Common.{◌≡◌, ℕ, zero, suc, ◌+◌, ◌*◌, ◌%�
 use Rattle.std.proofs.lemmas.Bool.{cases_eq, ne_eqb}
 use Rattle.std.proofs.lemmas.Bool.Decides.{nat_tests}
 use Rattle.slots.specs.declared.Slot.{Slot}
-use Rattle.robin_hood.specs.Homes.{home_of, awayOf, rank_of}
-use Rattle.slots.specs.Slots.{blank, nodeAt}
+use Rattle.robin_hood.specs.Homes.{home_of, away_of, rank_of}
+use Rattle.slots.specs.Slots.{blank, node_at}
 use Rattle.robin_hood.specs.Layout.{rank_at, Spread}
 use Rattle.slots.proofs.Rows.{fresh_node, node_same, node_other}
 
@@ -13,13 +13,13 @@ unfolding home_of
 home_below n = let z : (n * 0x9E3779B97F4A7C15) % 2 ^ 64 < 2 ^ 64 = omega arith in omega arith
 
 -- a slot is its displacement away from the home
-pub around : (i n : ℕ) → i < 1024 → (home_of n + awayOf i n) % 1024 ≡ i
+pub around : (i n : ℕ) → i < 1024 → (home_of n + away_of i n) % 1024 ≡ i
 around i n h = omega (arith, home_below n)
 
-pub away_at : (n k : ℕ) → k < 1024 → awayOf ((home_of n + k) % 1024) n ≡ k
+pub away_at : (n k : ℕ) → k < 1024 → away_of ((home_of n + k) % 1024) n ≡ k
 away_at n k h = omega (arith, home_below n)
 
-pub rank_some : (i n : ℕ) → 0 < n → rank_of i n ≡ awayOf i n + 1
+pub rank_some : (i n : ℕ) → 0 < n → rank_of i n ≡ away_of i n + 1
 unfolding rank_of
 rank_some i n h = grind (arith, nat_tests)
 
@@ -87,7 +87,7 @@ spread_set xs t c long s fits up j =
     (cases_eq (j % 1024) p)
 
 -- the node in a slot stays
-pub spread_same : (xs : List Slot) (p : ℕ) (c : Slot) → p < length xs → Spread xs → nodeAt xs p ≡ c.node → Spread (set xs p c)
+pub spread_same : (xs : List Slot) (p : ℕ) (c : Slot) → p < length xs → Spread xs → node_at xs p ≡ c.node → Spread (set xs p c)
 spread_same xs p c within s same j =
     let like : (i : ℕ) → rank_at (set xs p c) i ≡ rank_at xs i = λ i.
     ⊎_elim (λ (a : i ≡ p). rank_same xs p c within i a ∙ ap (rank_of p) (sym same) ∙ sym (ap (rank_at xs) a)) (λ (na : i ≡ p → ⊥). rank_other xs p c within i na) (cases_eq i p) in
@@ -95,4 +95,4 @@ spread_same xs p c within s same j =
 
 -- a row of empty slots
 pub fresh_spread : (n : ℕ) → Spread (replicate n blank)
-fresh_spread n j = omega (arith, rank_zero ((j + 1) % 1024) (nodeAt (replicate n blank) ((j + 1) % 1024)) (fresh_node n ((j + 1) % 1024)))
+fresh_spread n j = omega (arith, rank_zero ((j + 1) % 1024) (node_at (replicate n blank) ((j + 1) % 1024)) (fresh_node n ((j + 1) % 1024)))

@@ -2,19 +2,19 @@
 use Rattle.std.proofs.Common.{◌≡◌, ℕ, ◌+◌, ◌-◌, ◌%◌, ◌<◌, ◌≤◌, List, length, refl, ⊎_elim, arith}
 use Rattle.std.proofs.lemmas.Bool.{cases_lt, cases_eq}
 use Rattle.slots.specs.declared.Slot.{Slot}
-use Rattle.slots.specs.Slots.{nodeAt, held, Absent}
+use Rattle.slots.specs.Slots.{node_at, held, Absent}
 use Rattle.slots.proofs.Rows.{taken_within}
 use Rattle.slots.proofs.Counts.{held_all}
-use Rattle.robin_hood.specs.Homes.{home_of, awayOf, rank_of}
+use Rattle.robin_hood.specs.Homes.{home_of, away_of, rank_of}
 use Rattle.robin_hood.specs.Layout.{rank_at, Spread, Passes, Stops, Reaches}
 use Rattle.robin_hood.proofs.Rings.{home_below, around, away_at, rank_some, rank_zero, descent}
 
 -- where n stands, every slot from its home to there has a rank above its step
-high : (xs : List Slot) → Spread xs → (n i k : ℕ) → 0 < n → i < 1024 → nodeAt xs i ≡ n → k ≤ awayOf i n → k < rank_at xs ((home_of n + k) % 1024)
+high : (xs : List Slot) → Spread xs → (n i k : ℕ) → 0 < n → i < 1024 → node_at xs i ≡ n → k ≤ away_of i n → k < rank_at xs ((home_of n + k) % 1024)
 high xs s n i k pos h is low =
-    let q : (home_of n + k + (awayOf i n - k)) % 1024 ≡ i = omega (arith, home_below n) in
-    let d : rank_at xs i ≤ rank_at xs ((home_of n + k) % 1024) + (awayOf i n - k) = rw q at (descent xs s (home_of n + k) (awayOf i n - k)) in
-    let r : rank_at xs i ≡ awayOf i n + 1 = rw is (rank_some i n pos) in
+    let q : (home_of n + k + (away_of i n - k)) % 1024 ≡ i = omega (arith, home_below n) in
+    let d : rank_at xs i ≤ rank_at xs ((home_of n + k) % 1024) + (away_of i n - k) = rw q at (descent xs s (home_of n + k) (away_of i n - k)) in
+    let r : rank_at xs i ≡ away_of i n + 1 = rw is (rank_some i n pos) in
     omega arith
 
 -- the first k slots from the home h of n on are passed
@@ -38,7 +38,7 @@ module _ {xs : List Slot} {n h k : ℕ} (w : Walked xs n h k) where
   rank_here l = rw at_is (omega (arith, rank_some ((home_of n + k) % 1024) n w.some, away_at n k l))
 
   -- another node of a rank above the step stands in the slot
-  pub walk_on : k < 1024 → (nodeAt xs at ≡ n → ⊥) → k < rank_at xs at → Walked xs n h (k + 1)
+  pub walk_on : k < 1024 → (node_at xs at ≡ n → ⊥) → k < rank_at xs at → Walked xs n h (k + 1)
   walk_on l other above =
       record {
         home = w.home;
@@ -58,16 +58,16 @@ module _ {xs : List Slot} {n h k : ℕ} (w : Walked xs n h k) where
   pub walk_absent : Spread xs → k < 1024 → rank_at xs at ≤ k → Absent xs n
   walk_absent s l low i is =
       let within : i < 1024 = omega (arith, taken_within xs i (omega (arith, w.some)), w.long) in
-      ⊎_elim (λ (a : awayOf i n < k). (w.passed (awayOf i n) a).0 (rw (around i n within) is))
-      (λ (b : k ≤ awayOf i n). omega (arith, rw (← at_is) at (high xs s n i k w.some within is b)))
-      (cases_lt (awayOf i n) k)
+      ⊎_elim (λ (a : away_of i n < k). (w.passed (away_of i n) a).0 (rw (around i n within) is))
+      (λ (b : k ≤ away_of i n). omega (arith, rw (← at_is) at (high xs s n i k w.some within is b)))
+      (cases_lt (away_of i n) k)
 
   -- the walk does not pass all the slots, since one is empty
   pub walk_never : 1024 ≤ k → held xs < 1024 → ⊥
   walk_never all room =
       let full : held xs ≡ length xs = held_all xs (λ i l.
       let within : i < 1024 = omega (arith, w.long) in
-      let b : awayOf i n < k = omega (arith, home_below n) in
-      let r : rank_of i n ≤ rank_at xs i = rw (around i n within) at (w.passed (awayOf i n) b).1 in
-      ⊎_elim (λ (z : nodeAt xs i ≡ 0). absurd (omega (arith, rank_zero i (nodeAt xs i) z, rank_some i n w.some))) (λ (nz : nodeAt xs i ≡ 0 → ⊥). omega arith) (cases_eq (nodeAt xs i) 0)) in
+      let b : away_of i n < k = omega (arith, home_below n) in
+      let r : rank_of i n ≤ rank_at xs i = rw (around i n within) at (w.passed (away_of i n) b).1 in
+      ⊎_elim (λ (z : node_at xs i ≡ 0). absurd (omega (arith, rank_zero i (node_at xs i) z, rank_some i n w.some))) (λ (nz : node_at xs i ≡ 0 → ⊥). omega arith) (cases_eq (node_at xs i) 0)) in
       omega (arith, w.long)

@@ -18,29 +18,29 @@
 --                    one of displacement 0
 use Rattle.std.specs.Prelude.{◌≡◌, ℕ, ◌+◌, ◌%◌, ◌<◌, ◌≤◌, List, get_or, ◌≢◌, slice_index_or, slice_set}
 use Rattle.slots.specs.declared.Slot.{Slot}
-use Rattle.slots.specs.Slots.{blank, nodeAt}
-use Rattle.robin_hood.specs.Homes.{home_of, awayOf, rank_of}
+use Rattle.slots.specs.Slots.{blank, node_at}
+use Rattle.robin_hood.specs.Homes.{home_of, away_of, rank_of}
 
 abbrev pub rank_at : List Slot → ℕ → ℕ
-rank_at xs i = rank_of i (nodeAt xs i)
+rank_at xs i = rank_of i (node_at xs i)
 
 abbrev pub Spread : List Slot → Type 0
 Spread xs = (j : ℕ) → rank_at xs ((j + 1) % 1024) ≤ rank_at xs (j % 1024) + 1
 
 abbrev pub Passes : List Slot → ℕ → ℕ → Type 0
-Passes xs n at = (nodeAt xs at ≢ n) × (rank_of at n ≤ rank_at xs at)
+Passes xs n at = (node_at xs at ≢ n) × (rank_of at n ≤ rank_at xs at)
 
 abbrev pub Stops : List Slot → ℕ → ℕ → Type 0
 Stops xs n at = rank_at xs at < rank_of at n
 
 pub record Reaches (xs : List Slot) (n at : ℕ) : Type 0 where
   pub within : at < 1024
-  pub before : (j : ℕ) → j < awayOf at n → Passes xs n ((home_of n + j) % 1024)
+  pub before : (j : ℕ) → j < away_of at n → Passes xs n ((home_of n + j) % 1024)
 
 pub data Settles : List Slot → ℕ → Slot → List Slot → Type 0 where
-  rests : {xs : List Slot} {t : ℕ} {c : Slot} → nodeAt xs (t % 1024) ≡ 0 → Settles xs t c (slice_set xs (t % 1024) c)
-  stays : {xs : List Slot} {t : ℕ} {c : Slot} {ys : List Slot} → 0 < nodeAt xs (t % 1024) → rank_of (t % 1024) c.node ≤ rank_at xs (t % 1024) → Settles xs (t + 1) c ys → Settles xs t c ys
-  swaps : {xs : List Slot} {t : ℕ} {c : Slot} {ys : List Slot} → 0 < nodeAt xs (t % 1024) → rank_at xs (t % 1024) < rank_of (t % 1024) c.node → Settles (slice_set xs (t % 1024) c) (t + 1) (slice_index_or xs (t % 1024) blank) ys → Settles xs t c ys
+  rests : {xs : List Slot} {t : ℕ} {c : Slot} → node_at xs (t % 1024) ≡ 0 → Settles xs t c (slice_set xs (t % 1024) c)
+  stays : {xs : List Slot} {t : ℕ} {c : Slot} {ys : List Slot} → 0 < node_at xs (t % 1024) → rank_of (t % 1024) c.node ≤ rank_at xs (t % 1024) → Settles xs (t + 1) c ys → Settles xs t c ys
+  swaps : {xs : List Slot} {t : ℕ} {c : Slot} {ys : List Slot} → 0 < node_at xs (t % 1024) → rank_at xs (t % 1024) < rank_of (t % 1024) c.node → Settles (slice_set xs (t % 1024) c) (t + 1) (slice_index_or xs (t % 1024) blank) ys → Settles xs t c ys
 
 pub record Shifted (xs : List Slot) (from k : ℕ) (ys : List Slot) : Type 0 where
   pub away : (j : ℕ) → j < k → 1 < rank_at xs ((from + j + 1) % 1024)

@@ -3,7 +3,7 @@
 ghost use Rattle.std.specs.Prelude.{◌≡◌, ◌+◌, ◌<◌, None as Nothing};
 ghost use Rattle.dictionary.specs.Pairs.{with_pair};
 ghost use Rattle.robin_hood.specs.Layout.{Spread, Closes};
-ghost use Rattle.slots.specs.Slots.{nodeAt, pairsOf, held, Apart};
+ghost use Rattle.slots.specs.Slots.{node_at, pairs_of, held, Apart};
 
 use crate::home::{AT_HOME, SLOTS, rank};
 use slots::{EMPTY, Slot};
@@ -14,13 +14,13 @@ pub(crate) fn erase(slots: &mut [Slot; 1024], from: usize)
     requires spread { Spread slots.old }
     requires apart { Apart slots.old }
     requires within { from < 1024 }
-    requires some { 0 < nodeAt slots.old from }
+    requires some { 0 < node_at slots.old from }
     requires room { held slots.old < 1024 }
     ensures closes { Closes slots.old from slots.new }
     ensures spread { Spread slots.new }
     ensures apart { Apart slots.new }
     ensures held { held slots.new + 1 ≡ held slots.old }
-    ensures pairs { pairsOf slots.new ≡ with_pair (pairsOf slots.old) (nodeAt slots.old from) Nothing }
+    ensures pairs { pairs_of slots.new ≡ with_pair (pairs_of slots.old) (node_at slots.old from) Nothing }
 {
     slots[from] = EMPTY;
     for step in 0..SLOTS - 1 {

@@ -2,7 +2,7 @@
 // have a higher rank.
 ghost use Rattle.std.specs.Prelude.{◌≡◌, ◌<◌, MatchResult};
 ghost use Rattle.robin_hood.specs.Layout.{Spread, Reaches, Stops};
-ghost use Rattle.slots.specs.Slots.{nodeAt, held, Absent};
+ghost use Rattle.slots.specs.Slots.{node_at, held, Absent};
 
 use crate::home::{SLOTS, home, rank};
 use slots::Slot;
@@ -12,7 +12,7 @@ pub(crate) fn find(slots: &[Slot; 1024], node: u64) -> Result<usize, usize>
     requires spread { Spread slots.now }
     requires some { 0 < node }
     requires room { held slots.now < 1024 }
-    ensures walk { MatchResult result (λ at. Reaches slots.now node at × (nodeAt slots.now at ≡ node)) (λ at. Reaches slots.now node at × Stops slots.now node at) }
+    ensures walk { MatchResult result (λ at. Reaches slots.now node at × (node_at slots.now at ≡ node)) (λ at. Reaches slots.now node at × Stops slots.now node at) }
     ensures absent { MatchResult result (λ at. at < 1024) (λ _. Absent slots.now node) }
 {
     let start = home(node);

@@ -1,6 +1,6 @@
 // Where a node belongs on the ring, and how far from there a slot lies.
 ghost use Rattle.std.specs.Prelude.{◌≡◌, ◌<◌};
-ghost use Rattle.robin_hood.specs.Homes.{home_of, awayOf, rank_of};
+ghost use Rattle.robin_hood.specs.Homes.{home_of, away_of, rank_of};
 
 pub(crate) const SLOTS: usize = 1024;
 
@@ -18,7 +18,7 @@ pub(crate) fn home(node: u64) -> usize
 // How far `at` lies after the home of `node`.
 pub(crate) fn displacement(node: u64, at: usize) -> usize
     requires { at < 1024 }
-    ensures { result ≡ awayOf at node }
+    ensures { result ≡ away_of at node }
 {
     (at + SLOTS - home(node)) % SLOTS
 }

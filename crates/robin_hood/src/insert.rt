@@ -3,7 +3,7 @@ ghost use Rattle.std.specs.Prelude.{◌≡◌, ◌+◌, ◌<◌};
 ghost use Rattle.dictionary.specs.Pairs.{with_pair};
 ghost use Rattle.robin_hood.specs.Homes.{home_of};
 ghost use Rattle.robin_hood.specs.Layout.{Spread, Settles};
-ghost use Rattle.slots.specs.Slots.{linksOf, pairsOf, held, Apart, Absent};
+ghost use Rattle.slots.specs.Slots.{links_of, pairs_of, held, Apart, Absent};
 
 use crate::home::{SLOTS, home, rank};
 use slots::Slot;
@@ -20,7 +20,7 @@ pub(crate) fn insert(slots: &mut [Slot; 1024], new: Slot)
     ensures spread { Spread slots.new }
     ensures apart { Apart slots.new }
     ensures held { held slots.new ≡ held slots.old + 1 }
-    ensures pairs { pairsOf slots.new ≡ with_pair (pairsOf slots.old) new.node (linksOf new) }
+    ensures pairs { pairs_of slots.new ≡ with_pair (pairs_of slots.old) new.node (links_of new) }
 {
     let start = home(new.node);
     let mut carried = new;

@@ -2,7 +2,7 @@
 // counted, and the tally fits its type: what every call relies on and keeps.
 ghost use Rattle.std.specs.Prelude.{◌≡◌, ◌^◌, ◌<◌, ◌≤◌, refl};
 ghost use Rattle.robin_hood.specs.Layout.{Spread};
-ghost use Rattle.slots.specs.Slots.{pairsOf, nodesOf, held, Apart};
+ghost use Rattle.slots.specs.Slots.{pairs_of, nodes_of, held, Apart};
 ghost use Rattle.slots.proofs.Laws.{apart_nodes, pairs_among};
 ghost use Rattle.slots.proofs.Rows.{pairs_zero};
 ghost use Rattle.std.proofs.Common.{rules, arith};
@@ -29,9 +29,9 @@ pub struct RobinHood {
 }
 
 impl Dictionary for RobinHood {
-    ghost pairs = { λ d. pairsOf d.slots };
+    ghost pairs = { λ d. pairs_of d.slots };
 
-    ghost nodes = { λ d. nodesOf d.slots };
+    ghost nodes = { λ d. nodes_of d.slots };
 
     ghost room = { λ _. 768 };
 

@@ -12,16 +12,16 @@ use Rattle.runs.specs.Runs.{frames, changes, rebuildings, told}
 abbrev pub reply_of : Answered → Reply
 reply_of a = record { told = told_by a; frames = a.answer.frames; rebuilding = a.answer.rebuilding }
 
-sumBy_map : {X Y : Type 0} (f : Y → ℕ) (g : X → Y) (xs : List X) → sum_by f (map g xs) ≡ sum_by (λ x. f (g x)) xs
-sumBy_map f g [] = refl
-sumBy_map f g (x ∷ xs) =
-    sum_by-cons f (g x) (map g xs) ∙ (ap (λ n. f (g x) + n) (sumBy_map f g xs) ∙ sym (sum_by-cons (λ y. f (g y)) x xs))
+sum_by_map : {X Y : Type 0} (f : Y → ℕ) (g : X → Y) (xs : List X) → sum_by f (map g xs) ≡ sum_by (λ x. f (g x)) xs
+sum_by_map f g [] = refl
+sum_by_map f g (x ∷ xs) =
+    sum_by-cons f (g x) (map g xs) ∙ (ap (λ n. f (g x) + n) (sum_by_map f g xs) ∙ sym (sum_by-cons (λ y. f (g y)) x xs))
 
 pub same_frames : (rs : List Answered) → frames rs ≡ frames_replied (map reply_of rs)
-same_frames rs = sym (sumBy_map (λ (r : Reply). r.frames) reply_of rs)
+same_frames rs = sym (sum_by_map (λ (r : Reply). r.frames) reply_of rs)
 
 pub same_rebuildings : (rs : List Answered) → rebuildings rs ≡ rebuildings_replied (map reply_of rs)
-same_rebuildings rs = sym (sumBy_map (λ (r : Reply). rebuilt r.rebuilding) reply_of rs)
+same_rebuildings rs = sym (sum_by_map (λ (r : Reply). rebuilt r.rebuilding) reply_of rs)
 
 pub same_changes : (cs : List Asked) (rs : List Answered) → changes cs rs ≡ changes_replied cs (map reply_of rs)
 unfolding changes changes_replied

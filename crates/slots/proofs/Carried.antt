@@ -3,7 +3,7 @@ use Rattle.std.proofs.Common.{◌≡◌, ℕ, ◌+◌, ◌<◌, ◌≢◌, List,
 use Rattle.std.proofs.lemmas.Bool.{cases_eq, cond-true, cond-false, eq-eqb, ne_eqb}
 use Rattle.dictionary.specs.Pairs.{with_pair}
 use Rattle.slots.specs.declared.Slot.{Slot}
-use Rattle.slots.specs.Slots.{blank, nodeAt, linksOf, pairsOf, held, Apart, Absent}
+use Rattle.slots.specs.Slots.{blank, node_at, links_of, pairs_of, held, Apart, Absent}
 use Rattle.slots.proofs.Rows.{node_same, node_other, apart_set, pairs_found, pairs_here, pairs_else, pairs_fill}
 use Rattle.slots.proofs.Counts.{held_more, held_same}
 
@@ -14,7 +14,7 @@ pub record Carried (size : ℕ) (xs₀ : List Slot) (new : Slot) (xs : List Slot
   pub some : 0 < c.node
   pub absent : Absent xs c.node
   pub count : held xs ≡ held xs₀
-  pub pairs : (m : ℕ) → with_pair (pairsOf xs) c.node (linksOf c) m ≡ with_pair (pairsOf xs₀) new.node (linksOf new) m
+  pub pairs : (m : ℕ) → with_pair (pairs_of xs) c.node (links_of c) m ≡ with_pair (pairs_of xs₀) new.node (links_of new) m
 
 pub carried_start : {size : ℕ} {xs : List Slot} {c : Slot} → length xs ≡ size → Apart xs → 0 < c.node → Absent xs c.node → Carried size xs c xs c
 carried_start long apart some absent = record { long = long; apart = apart; some = some; absent = absent; count = refl; pairs = λ m. refl }
@@ -24,10 +24,10 @@ module _ {size : ℕ} {xs₀ : List Slot} {new : Slot} {xs : List Slot} {c : Slo
   put_apart = apart_set xs p c h s.apart (λ i ne e pos. s.absent i e)
 
   -- the pair carried goes into an empty slot
-  pub put_held : nodeAt xs p ≡ 0 → held (set xs p c) ≡ held xs₀ + 1
+  pub put_held : node_at xs p ≡ 0 → held (set xs p c) ≡ held xs₀ + 1
   put_held empty = omega (arith, held_more xs p c h empty s.some, s.count)
 
-  pub put_pairs : nodeAt xs p ≡ 0 → (m : ℕ) → pairsOf (set xs p c) m ≡ with_pair (pairsOf xs₀) new.node (linksOf new) m
+  pub put_pairs : node_at xs p ≡ 0 → (m : ℕ) → pairs_of (set xs p c) m ≡ with_pair (pairs_of xs₀) new.node (links_of new) m
   put_pairs empty m =
       ⊎_elim
       (λ (a : m ≡ c.node). rw a (pairs_here xs p c h s.apart put_apart s.some ∙ sym (cond-true _ _ _ (eq-eqb c.node c.node refl)) ∙ s.pairs c.node))
@@ -35,7 +35,7 @@ module _ {size : ℕ} {xs₀ : List Slot} {new : Slot} {xs : List Slot} {c : Slo
       (cases_eq m c.node)
 
   -- the pair carried changes places with the resident
-  pub swapped : 0 < nodeAt xs p → Carried size xs₀ new (set xs p c) (get_or xs p blank)
+  pub swapped : 0 < node_at xs p → Carried size xs₀ new (set xs p c) (get_or xs p blank)
   swapped taken =
       record {
         long = length-set xs p c ∙ s.long;
@@ -43,7 +43,7 @@ module _ {size : ℕ} {xs₀ : List Slot} {new : Slot} {xs : List Slot} {c : Slo
         some = taken;
         absent = λ i q.
             ⊎_elim
-            (λ (a : i ≡ p). s.absent p (sym q ∙ ap (nodeAt (set xs p c)) a ∙ node_same xs p c h))
+            (λ (a : i ≡ p). s.absent p (sym q ∙ ap (node_at (set xs p c)) a ∙ node_same xs p c h))
             (λ (na : i ≡ p → ⊥). na (s.apart i p (omega (arith, node_other xs p c h i na), sym (node_other xs p c h i na) ∙ q)))
             (cases_eq i p);
         count = held_same xs p c h taken s.some ∙ s.count;
@@ -56,7 +56,7 @@ module _ {size : ℕ} {xs₀ : List Slot} {new : Slot} {xs : List Slot} {c : Slo
             (λ (na : m ≡ r.node → ⊥).
             cond-false _ _ _ (ne_eqb m r.node na)
             ∙ ⊎_elim
-            (λ (b : m ≡ c.node). ap (pairsOf (set xs p c)) b ∙ pairs_here xs p c h s.apart put_apart s.some ∙ sym (cond-true _ _ _ (eq-eqb m c.node b)))
+            (λ (b : m ≡ c.node). ap (pairs_of (set xs p c)) b ∙ pairs_here xs p c h s.apart put_apart s.some ∙ sym (cond-true _ _ _ (eq-eqb m c.node b)))
             (λ (nb : m ≡ c.node → ⊥). pairs_else xs p c h s.apart put_apart m na nb ∙ sym (cond-false _ _ _ (ne_eqb m c.node nb)))
             (cases_eq m c.node))
             (cases_eq m r.node)

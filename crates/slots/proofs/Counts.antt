@@ -3,37 +3,37 @@ use Rattle.std.proofs.Common.{◌≡◌, ℕ, zero, suc, ◌+◌, ◌<◌, ◌�
 use Rattle.std.proofs.lemmas.Bool.{cases_Bool}
 use Rattle.std.proofs.lemmas.Bool.Decides.{nat_tests}
 use Rattle.slots.specs.declared.Slot.{Slot}
-use Rattle.slots.specs.Slots.{blank, nodeAt, nodesOf, held}
+use Rattle.slots.specs.Slots.{blank, node_at, nodes_of, held}
 
 -- 1 for a slot that is taken
 abbrev weight : ℕ → ℕ
 weight n = cond (eqb n 0) 0 1
 
 held_cons : (s : Slot) (ss : List Slot) → held (s ∷ ss) ≡ weight s.node + held ss
-unfolding nodesOf
+unfolding nodes_of
 held_cons s ss = elim (cases_Bool (eqb s.node 0)) [ inl e ↦ rw e (omega arith) | inr e ↦ rw e (omega arith) ]
 
-held_set : (xs : List Slot) (p : ℕ) (c : Slot) → p < length xs → held (set xs p c) + weight (nodeAt xs p) ≡ held xs + weight c.node
+held_set : (xs : List Slot) (p : ℕ) (c : Slot) → p < length xs → held (set xs p c) + weight (node_at xs p) ≡ held xs + weight c.node
 held_set [] p c h = absurd (omega arith)
 held_set (s ∷ ss) zero c h = omega (arith, held_cons s ss, held_cons c ss)
 held_set (s ∷ ss) (suc p) c h = omega (arith, held_set ss p c (omega arith), held_cons s ss, held_cons s (set ss p c))
 
 module _ (xs : List Slot) (p : ℕ) (c : Slot) (within : p < length xs) where
   -- an empty slot is filled
-  pub held_more : nodeAt xs p ≡ 0 → 0 < c.node → held (set xs p c) ≡ held xs + 1
+  pub held_more : node_at xs p ≡ 0 → 0 < c.node → held (set xs p c) ≡ held xs + 1
   held_more empty pos = grind (arith, nat_tests, held_set xs p c within)
 
   -- a taken slot is emptied
-  pub held_less : 0 < nodeAt xs p → c.node ≡ 0 → held (set xs p c) + 1 ≡ held xs
+  pub held_less : 0 < node_at xs p → c.node ≡ 0 → held (set xs p c) + 1 ≡ held xs
   held_less pos empty = grind (arith, nat_tests, held_set xs p c within)
 
   -- a taken slot stays taken
-  pub held_same : 0 < nodeAt xs p → 0 < c.node → held (set xs p c) ≡ held xs
+  pub held_same : 0 < node_at xs p → 0 < c.node → held (set xs p c) ≡ held xs
   held_same pos pos' = grind (arith, nat_tests, held_set xs p c within)
 
 -- a row with no empty slot holds as many as it is long
-pub held_all : (xs : List Slot) → ((i : ℕ) → i < length xs → 0 < nodeAt xs i) → held xs ≡ length xs
-unfolding nodesOf
+pub held_all : (xs : List Slot) → ((i : ℕ) → i < length xs → 0 < node_at xs i) → held xs ≡ length xs
+unfolding nodes_of
 held_all [] all = refl
 held_all (s ∷ ss) all =
     let r : held ss ≡ length ss = held_all ss (λ i h. all (suc i) (omega arith)) in
@@ -42,8 +42,8 @@ held_all (s ∷ ss) all =
     grind (arith, nat_tests)
 
 -- a row that is taken up to a slot and empty from there on
-pub held_packed : (xs : List Slot) (n : ℕ) → ((k : ℕ) → k < n → 0 < nodeAt xs k) → ((k : ℕ) → n ≤ k → nodeAt xs k ≡ 0) → held xs ≡ n
-unfolding nodesOf
+pub held_packed : (xs : List Slot) (n : ℕ) → ((k : ℕ) → k < n → 0 < node_at xs k) → ((k : ℕ) → n ≤ k → node_at xs k ≡ 0) → held xs ≡ n
+unfolding nodes_of
 held_packed [] zero taken free = refl
 held_packed [] (suc n) taken free = absurd (omega (arith, taken zero (omega arith)))
 held_packed (s ∷ ss) zero taken free =
@@ -64,7 +64,7 @@ held_drop (suc k) [] = omega arith
 held_drop (suc k) (s ∷ ss) = omega (arith, held_drop k ss, held_cons s ss)
 
 -- a row of empty slots
-pub fresh_nodes : (n : ℕ) → nodesOf (replicate n blank) ≡ []
-unfolding nodesOf
+pub fresh_nodes : (n : ℕ) → nodes_of (replicate n blank) ≡ []
+unfolding nodes_of
 fresh_nodes zero = refl
 fresh_nodes (suc n) = fresh_nodes n

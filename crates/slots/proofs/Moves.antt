@@ -3,14 +3,14 @@
 use Rattle.std.proofs.Common.{◌≡◌, ℕ, ◌<◌, ◌≢◌, List, length, get_or, set, sym, refl, ap, ◌∙◌, ⊎_elim, arith, length-set}
 use Rattle.std.proofs.lemmas.Bool.{cases_eq}
 use Rattle.slots.specs.declared.Slot.{Slot}
-use Rattle.slots.specs.Slots.{blank, nodeAt, pairsOf, held, Apart}
+use Rattle.slots.specs.Slots.{blank, node_at, pairs_of, held, Apart}
 use Rattle.slots.proofs.Rows.{node_same, node_other, apart_set, out_apart, pairs_found, pairs_here, pairs_fill, pairs_clear}
 use Rattle.slots.proofs.Counts.{held_more, held_less}
 
 abbrev pub moved : List Slot → ℕ → ℕ → List Slot
 moved xs n p = set (set xs n blank) p (get_or xs n blank)
 
-module _ (xs : List Slot) (n p : ℕ) (n_within : n < length xs) (p_within : p < length xs) (other : p ≢ n) (hole : nodeAt xs p ≡ 0) (taken : 0 < nodeAt xs n) (apart : Apart xs) where
+module _ (xs : List Slot) (n p : ℕ) (n_within : n < length xs) (p_within : p < length xs) (other : p ≢ n) (hole : node_at xs p ≡ 0) (taken : 0 < node_at xs n) (apart : Apart xs) where
   abbrev f : Slot
   f = get_or xs n blank
 
@@ -20,7 +20,7 @@ module _ (xs : List Slot) (n p : ℕ) (n_within : n < length xs) (p_within : p <
   p_there : p < length ys
   p_there = rw length-set p_within
 
-  ys_hole : nodeAt ys p ≡ 0
+  ys_hole : node_at ys p ≡ 0
   ys_hole = node_other xs n blank n_within p other ∙ hole
 
   ys_apart : Apart ys
@@ -29,16 +29,16 @@ module _ (xs : List Slot) (n p : ℕ) (n_within : n < length xs) (p_within : p <
   pub move_apart : Apart (moved xs n p)
   move_apart = apart_set ys p f p_there ys_apart (λ i ne e pos.
       ⊎_elim
-      (λ (a : i ≡ n). omega (arith, ap (nodeAt ys) a, node_same xs n blank n_within))
+      (λ (a : i ≡ n). omega (arith, ap (node_at ys) a, node_same xs n blank n_within))
       (λ (na : i ≡ n → ⊥). na (apart i n (omega (arith, node_other xs n blank n_within i na), sym (node_other xs n blank n_within i na) ∙ e)))
       (cases_eq i n))
 
   pub move_held : held (moved xs n p) ≡ held xs
   move_held = omega (arith, held_more ys p f p_there ys_hole taken, held_less xs n blank n_within taken refl)
 
-  pub move_pairs : (m : ℕ) → pairsOf (moved xs n p) m ≡ pairsOf xs m
+  pub move_pairs : (m : ℕ) → pairs_of (moved xs n p) m ≡ pairs_of xs m
   move_pairs m =
       ⊎_elim
-      (λ (a : m ≡ f.node). ap (pairsOf (moved xs n p)) a ∙ pairs_here ys p f p_there ys_apart move_apart taken ∙ sym (pairs_found xs apart n m (omega arith) (sym a)))
+      (λ (a : m ≡ f.node). ap (pairs_of (moved xs n p)) a ∙ pairs_here ys p f p_there ys_apart move_apart taken ∙ sym (pairs_found xs apart n m (omega arith) (sym a)))
       (λ (na : m ≡ f.node → ⊥). pairs_fill ys p f p_there ys_apart move_apart m ys_hole na ∙ pairs_clear xs n blank n_within apart ys_apart m refl na)
       (cases_eq m f.node)

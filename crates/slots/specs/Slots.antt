@@ -1,11 +1,11 @@
 -- What a row of slots holds. Past its end a row reads as empty slots.
 --
 --   blank            an empty slot
---   nodeAt           the node in a slot of a row, 0 where the slot is empty
---   linksOf          the links in a slot
+--   node_at           the node in a slot of a row, 0 where the slot is empty
+--   links_of          the links in a slot
 --   seek             the links in the first slot of a node
---   pairsOf          what a row means: the links of each node, and none of node 0
---   nodesOf          the nodes that stand in a row, from its first slot on
+--   pairs_of          what a row means: the links of each node, and none of node 0
+--   nodes_of          the nodes that stand in a row, from its first slot on
 --   held             how many slots are taken
 --   Apart            no node stands in two slots
 --   Absent           a node stands in no slot
@@ -16,28 +16,28 @@ use Rattle.slots.specs.declared.Slot.{Slot}
 abbrev pub blank : Slot
 blank = record { node = 0; low = 0; high = 0 }
 
-abbrev pub nodeAt : List Slot → ℕ → ℕ
-nodeAt xs i = (slice_index_or xs i blank).node
+abbrev pub node_at : List Slot → ℕ → ℕ
+node_at xs i = (slice_index_or xs i blank).node
 
-abbrev pub linksOf : Slot → Option Links
-linksOf s = Some (s.low, s.high)
+abbrev pub links_of : Slot → Option Links
+links_of s = Some (s.low, s.high)
 
 unfoldable pub seek : List Slot → Pairs
 seek [] n = None
-seek (s ∷ ss) n = cond (s.node == n) (linksOf s) (seek ss n)
+seek (s ∷ ss) n = cond (s.node == n) (links_of s) (seek ss n)
 
-unfoldable pub pairsOf : List Slot → Pairs
-pairsOf xs n = cond (n == 0) None (seek xs n)
+unfoldable pub pairs_of : List Slot → Pairs
+pairs_of xs n = cond (n == 0) None (seek xs n)
 
-unfoldable pub nodesOf : List Slot → List ℕ
-nodesOf [] = []
-nodesOf (s ∷ ss) = cond (s.node == 0) (nodesOf ss) (s.node ∷ nodesOf ss)
+unfoldable pub nodes_of : List Slot → List ℕ
+nodes_of [] = []
+nodes_of (s ∷ ss) = cond (s.node == 0) (nodes_of ss) (s.node ∷ nodes_of ss)
 
 abbrev pub held : List Slot → ℕ
-held xs = length (nodesOf xs)
+held xs = length (nodes_of xs)
 
 abbrev pub Apart : List Slot → Type 0
-Apart xs = (i j : ℕ) → (0 < nodeAt xs i) × (nodeAt xs i ≡ nodeAt xs j) → i ≡ j
+Apart xs = (i j : ℕ) → (0 < node_at xs i) × (node_at xs i ≡ node_at xs j) → i ≡ j
 
 abbrev pub Absent : List Slot → ℕ → Type 0
-Absent xs n = (i : ℕ) → nodeAt xs i ≢ n
+Absent xs n = (i : ℕ) → node_at xs i ≢ n

@@ -20,7 +20,7 @@ use Rattle.trees.specs.declared.Found.{Found}
 use Rattle.trees.specs.declared.Node.{Node}
 use Rattle.trees.specs.Counts.{single, times}
 use Rattle.trees.specs.Trees.{Tree, tall, entries, places, seen, low_way, high_way}
-use Rattle.trees.specs.Pools.{nodeAt, entry_at, left_at, rightAt, treeAt, entries_at, places_at, Standing}
+use Rattle.trees.specs.Pools.{node_at, entry_at, left_at, right_at, tree_at, entries_at, places_at, Standing}
 use Rattle.trees.specs.Answers.{foremost, hindmost, Saw}
 use Rattle.trees.specs.Heights.{highest}
 use Rattle.trees.proofs.Counts.{times_append}
@@ -73,30 +73,30 @@ module _ (ns : List Node) (root : ℕ) (o : Opened ns root) where
   lows = entries (left_at ns root)
 
   abbrev highs : List Entry
-  highs = entries (rightAt ns root)
+  highs = entries (right_at ns root)
 
-  pub entries_open : entries_at ns root ≡ entries (left_at ns root) ++ entry_at ns root ∷ entries (rightAt ns root)
+  pub entries_open : entries_at ns root ≡ entries (left_at ns root) ++ entry_at ns root ∷ entries (right_at ns root)
   entries_open = ap entries o.here
 
-  pub tall_open : tall (treeAt ns root) ≡ 1 + max (tall (left_at ns root)) (tall (rightAt ns root))
+  pub tall_open : tall (tree_at ns root) ≡ 1 + max (tall (left_at ns root)) (tall (right_at ns root))
   tall_open = ap tall o.here
 
-  pub low_open : low_way (treeAt ns root) ≡ low_way (left_at ns root) + 1
+  pub low_open : low_way (tree_at ns root) ≡ low_way (left_at ns root) + 1
   low_open = omega (arith, ap low_way o.here)
 
-  pub high_open : high_way (treeAt ns root) ≡ high_way (rightAt ns root) + 1
+  pub high_open : high_way (tree_at ns root) ≡ high_way (right_at ns root) + 1
   high_open = omega (arith, ap high_way o.here)
 
-  pub walk_both : places_at ns root ≡ places (left_at ns root) ++ root ∷ places (rightAt ns root)
+  pub walk_both : places_at ns root ≡ places (left_at ns root) ++ root ∷ places (right_at ns root)
   walk_both = ap places o.here
 
-  pub walk_long : length (places_at ns root) ≡ length (places (left_at ns root)) + 1 + length (places (rightAt ns root))
-  walk_long = omega (arith, ap length walk_both, length-append (places (left_at ns root)) (root ∷ places (rightAt ns root)))
+  pub walk_long : length (places_at ns root) ≡ length (places (left_at ns root)) + 1 + length (places (right_at ns root))
+  walk_long = omega (arith, ap length walk_both, length-append (places (left_at ns root)) (root ∷ places (right_at ns root)))
 
-  pub count_open : (j : ℕ) → times j (places_at ns root) ≡ times j (places (left_at ns root)) + single j root + times j (places (rightAt ns root))
-  count_open j = omega (arith, ap (times j) walk_both, times_append j (places (left_at ns root)) (root ∷ places (rightAt ns root)))
+  pub count_open : (j : ℕ) → times j (places_at ns root) ≡ times j (places (left_at ns root)) + single j root + times j (places (right_at ns root))
+  count_open j = omega (arith, ap (times j) walk_both, times_append j (places (left_at ns root)) (root ∷ places (right_at ns root)))
 
-  module _ (key : ℕ) (is : key ≡ (nodeAt ns root).key) where
+  module _ (key : ℕ) (is : key ≡ (node_at ns root).key) where
     under_is : Under key lows
     under_is = under_more _ key lows (omega arith) o.split.under
 
@@ -106,68 +106,68 @@ module _ (ns : List Node) (root : ℕ) (o : Opened ns root) where
     pub at_here : at key (entries_at ns root) ≡ entry_at ns root ∷ []
     at_here = ap (at key) entries_open ∙ key_at key lows mine highs is under_is over_is
 
-    pub from_here : from key (entries_at ns root) ≡ entry_at ns root ∷ entries (rightAt ns root)
+    pub from_here : from key (entries_at ns root) ≡ entry_at ns root ∷ entries (right_at ns root)
     from_here = ap (from key) entries_open ∙ key_from key lows mine highs is under_is over_is
 
     pub upto_here : upto key (entries_at ns root) ≡ entries (left_at ns root) ++ entry_at ns root ∷ []
     upto_here = ap (upto key) entries_open ∙ key_upto key lows mine highs is under_is over_is
 
-    pub path_here : seen key (treeAt ns root) ≡ 1
-    path_here = ap (seen key) o.here ∙ seen_here key root mine (left_at ns root) (rightAt ns root) is
+    pub path_here : seen key (tree_at ns root) ≡ 1
+    path_here = ap (seen key) o.here ∙ seen_here key root mine (left_at ns root) (right_at ns root) is
 
-  module _ (key : ℕ) (lt : key < (nodeAt ns root).key) where
+  module _ (key : ℕ) (lt : key < (node_at ns root).key) where
     over_low : Over key (mine ∷ highs)
     over_low = (lt, over_less key _ highs (omega arith) o.split.over)
 
     pub at_low : at key (entries_at ns root) ≡ at key (entries (left_at ns root))
     at_low = ap (at key) entries_open ∙ at_left key lows (mine ∷ highs) over_low
 
-    pub from_low : from key (entries_at ns root) ≡ from key (entries (left_at ns root)) ++ entry_at ns root ∷ entries (rightAt ns root)
+    pub from_low : from key (entries_at ns root) ≡ from key (entries (left_at ns root)) ++ entry_at ns root ∷ entries (right_at ns root)
     from_low = ap (from key) entries_open ∙ from_left key lows (mine ∷ highs) over_low
 
     pub upto_low : upto key (entries_at ns root) ≡ upto key (entries (left_at ns root))
     upto_low = ap (upto key) entries_open ∙ upto_left key lows (mine ∷ highs) over_low
 
-    pub path_low : seen key (treeAt ns root) ≡ seen key (left_at ns root) + 1
-    path_low = ap (seen key) o.here ∙ seen_left key root mine (left_at ns root) (rightAt ns root) lt
+    pub path_low : seen key (tree_at ns root) ≡ seen key (left_at ns root) + 1
+    path_low = ap (seen key) o.here ∙ seen_left key root mine (left_at ns root) (right_at ns root) lt
 
-  module _ (key : ℕ) (lt : (nodeAt ns root).key < key) where
+  module _ (key : ℕ) (lt : (node_at ns root).key < key) where
     under_high : Under key lows
     under_high = under_more _ key lows (omega arith) o.split.under
 
-    pub at_high : at key (entries_at ns root) ≡ at key (entries (rightAt ns root))
+    pub at_high : at key (entries_at ns root) ≡ at key (entries (right_at ns root))
     at_high = ap (at key) entries_open ∙ at_right key lows (mine ∷ highs) under_high ∙ at_past key mine highs lt
 
-    pub from_high : from key (entries_at ns root) ≡ from key (entries (rightAt ns root))
+    pub from_high : from key (entries_at ns root) ≡ from key (entries (right_at ns root))
     from_high = ap (from key) entries_open ∙ from_right key lows (mine ∷ highs) under_high ∙ from_past key mine highs lt
 
-    pub upto_high : upto key (entries_at ns root) ≡ entries (left_at ns root) ++ entry_at ns root ∷ upto key (entries (rightAt ns root))
+    pub upto_high : upto key (entries_at ns root) ≡ entries (left_at ns root) ++ entry_at ns root ∷ upto key (entries (right_at ns root))
     upto_high = ap (upto key) entries_open ∙ upto_right key lows (mine ∷ highs) under_high ∙ ap (λ z. lows ++ z) (upto_past key mine highs lt)
 
-    pub path_high : seen key (treeAt ns root) ≡ seen key (rightAt ns root) + 1
-    path_high = ap (seen key) o.here ∙ seen_right key root mine (left_at ns root) (rightAt ns root) lt
+    pub path_high : seen key (tree_at ns root) ≡ seen key (right_at ns root) + 1
+    path_high = ap (seen key) o.here ∙ seen_right key root mine (left_at ns root) (right_at ns root) lt
 
   module _ (a b : ℕ) where
-    pub span_high : (nodeAt ns root).key < a → between a b (entries_at ns root) ≡ between a b (entries (rightAt ns root))
+    pub span_high : (node_at ns root).key < a → between a b (entries_at ns root) ≡ between a b (entries (right_at ns root))
     span_high lt = ap (between a b) entries_open ∙ between_append a b lows (mine ∷ highs)
         ∙ ap (λ z. z ++ between a b (mine ∷ highs)) (under_between a b lows (under_more _ a lows (omega arith) o.split.under))
         ∙ between_append a b (mine ∷ []) highs ∙ ap (λ z. z ++ between a b highs) (under_between a b (mine ∷ []) (lt, tt))
 
-    pub span_low : b < (nodeAt ns root).key → between a b (entries_at ns root) ≡ between a b (entries (left_at ns root))
+    pub span_low : b < (node_at ns root).key → between a b (entries_at ns root) ≡ between a b (entries (left_at ns root))
     span_low lt = ap (between a b) entries_open ∙ between_append a b lows (mine ∷ highs)
         ∙ ap (λ z. between a b lows ++ z) (over_between a b (mine ∷ highs) (lt, over_less b _ highs (omega arith) o.split.over))
         ∙ append-nil (between a b lows)
 
-    module _ (le : a ≤ (nodeAt ns root).key) (ge : (nodeAt ns root).key ≤ b) where
-      pub span_both : between a b (entries_at ns root) ≡ between a b (entries (left_at ns root)) ++ entry_at ns root ∷ between a b (entries (rightAt ns root))
+    module _ (le : a ≤ (node_at ns root).key) (ge : (node_at ns root).key ≤ b) where
+      pub span_both : between a b (entries_at ns root) ≡ between a b (entries (left_at ns root)) ++ entry_at ns root ∷ between a b (entries (right_at ns root))
       span_both = ap (between a b) entries_open ∙ between_append a b lows (mine ∷ highs) ∙ ap (λ z. between a b lows ++ z) (between_in a b mine highs le ge)
 
-      pub span_long : length (between a b (entries_at ns root)) ≡ length (between a b (entries (left_at ns root))) + 1 + length (between a b (entries (rightAt ns root)))
+      pub span_long : length (between a b (entries_at ns root)) ≡ length (between a b (entries (left_at ns root))) + 1 + length (between a b (entries (right_at ns root)))
       span_long = omega (arith, ap length span_both, length-append (between a b lows) (mine ∷ between a b highs))
 
 pub span_few : (a b : ℕ) (ns : List Node) (root : ℕ) → Standing ns root → length (between a b (entries_at ns root)) ≤ 512
 span_few a b ns root s =
     omega (arith, kept_short (λ (e : Entry). leb a e.key) (upto b (entries_at ns root)), kept_short (λ (e : Entry). leb e.key b) (entries_at ns root), size ns root s)
 
-pub visits_highest : (s key : ℕ) (ns : List Node) (root : ℕ) → Standing ns root → length (entries_at ns root) ≤ s → s < 232 → seen key (treeAt ns root) ≤ highest s
-visits_highest s key ns root st le small = omega (arith, seen_low key (treeAt ns root), highest_tree s small (treeAt ns root) st.balanced le)
+pub visits_highest : (s key : ℕ) (ns : List Node) (root : ℕ) → Standing ns root → length (entries_at ns root) ≤ s → s < 232 → seen key (tree_at ns root) ≤ highest s
+visits_highest s key ns root st le small = omega (arith, seen_low key (tree_at ns root), highest_tree s small (tree_at ns root) st.balanced le)

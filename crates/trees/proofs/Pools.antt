@@ -18,7 +18,7 @@ use Rattle.entry.proofs.Orders.{Split, rising_split}
 use Rattle.trees.specs.declared.Node.{Node}
 use Rattle.trees.specs.Counts.{single, times}
 use Rattle.trees.specs.Trees.{Tree, leaf, node, top, tall, entries, places, Balanced}
-use Rattle.trees.specs.Pools.{nodeAt, entry_at, high, Lies, Stands, tree_for, treeAt, left_at, rightAt, entries_at, places_at, Standing, Kept}
+use Rattle.trees.specs.Pools.{node_at, entry_at, high, Lies, Stands, tree_for, tree_at, left_at, right_at, entries_at, places_at, Standing, Kept}
 use Rattle.trees.proofs.Counts.{single_same, single_other, times_append, times_all, distinct_few}
 use Rattle.trees.proofs.Heights.{fewest_le, fewest_holds}
 
@@ -47,7 +47,7 @@ pub low : (ns : List Node) (root : ℕ) (t : Tree) → Stands ns root t → tall
 low ns root t s = low_of ns t s.lies s.few s.apart s.balanced
 
 pub size : (ns : List Node) (root : ℕ) → Standing ns root → length (entries_at ns root) ≤ 512
-size ns root s = size_of ns (treeAt ns root) s.lies s.few s.apart
+size ns root s = size_of ns (tree_at ns root) s.lies s.few s.apart
 
 tree_for : (f : ℕ) (ns : List Node) (t : Tree) → length ns ≤ 512 → Lies ns t → tall t ≤ f → tree_for f ns (top t) ≡ t
 unfolding tree_for
@@ -56,12 +56,12 @@ tree_for zero ns (node i e l r) few h le = absurd (omega arith)
 tree_for (suc f) ns leaf few h le = refl
 tree_for (suc f) ns (node i e l r) few h le =
     let lt : i < length ns = h.0 in
-    let a : tree_for f ns (nodeAt ns i).left ≡ l = ap (λ n. tree_for f ns n.left) h.1 ∙ tree_for f ns l few h.2 (omega arith) in
-    let b : tree_for f ns (nodeAt ns i).right ≡ r = ap (λ n. tree_for f ns n.right) h.1 ∙ tree_for f ns r few h.3 (omega arith) in
+    let a : tree_for f ns (node_at ns i).left ≡ l = ap (λ n. tree_for f ns n.left) h.1 ∙ tree_for f ns l few h.2 (omega arith) in
+    let b : tree_for f ns (node_at ns i).right ≡ r = ap (λ n. tree_for f ns n.right) h.1 ∙ tree_for f ns r few h.3 (omega arith) in
     rw (ne_eqb i 65535 (omega arith), tree_for) (λ d. node i (record { key = (h.1 d).key; note = (h.1 d).note }) (a d) (b d))
 
-pub tree_is : (ns : List Node) (root : ℕ) (t : Tree) → Stands ns root t → treeAt ns root ≡ t
-unfolding treeAt
+pub tree_is : (ns : List Node) (root : ℕ) (t : Tree) → Stands ns root t → tree_at ns root ≡ t
+unfolding tree_at
 tree_is ns root t s = ap (tree_for 12 ns) (sym s.root_is) ∙ tree_for 12 ns t s.few s.lies (low ns root t s)
 
 pub standing : (ns : List Node) (root : ℕ) (t : Tree) → Stands ns root t → Standing ns root
@@ -73,8 +73,8 @@ no_tree ns few = record { lies = tt; root_is = refl; balanced = tt; rising = tt;
 pub standing_none : (ns : List Node) → length ns ≤ 512 → Standing ns 65535
 standing_none ns few = standing ns 65535 leaf (no_tree ns few)
 
-pub end_is : (ns : List Node) (root : ℕ) → root ≡ 65535 → treeAt ns root ≡ leaf
-unfolding treeAt tree_for
+pub end_is : (ns : List Node) (root : ℕ) → root ≡ 65535 → tree_at ns root ≡ leaf
+unfolding tree_at tree_for
 end_is ns root e = ap (tree_for 12 ns) e
 
 high_of : (ns : List Node) (root : ℕ) (t : Tree) → Stands ns root t → high ns root ≡ tall t
@@ -83,19 +83,19 @@ high_of ns root (node i e l r) s =
     let lt : i < length ns = s.lies.0 in
     let few : length ns ≤ 512 = s.few in
     let is : i ≡ root = s.root_is in
-    cond-false (eqb root 65535) _ _ (ne_eqb root 65535 (omega arith)) ∙ ap (λ x. (nodeAt ns x).height) (sym is) ∙ ap (λ n. n.height) s.lies.1
+    cond-false (eqb root 65535) _ _ (ne_eqb root 65535 (omega arith)) ∙ ap (λ x. (node_at ns x).height) (sym is) ∙ ap (λ n. n.height) s.lies.1
 
-pub high_is : (ns : List Node) (root : ℕ) → Standing ns root → high ns root ≡ tall (treeAt ns root)
-high_is ns root s = high_of ns root (treeAt ns root) s
+pub high_is : (ns : List Node) (root : ℕ) → Standing ns root → high ns root ≡ tall (tree_at ns root)
+high_is ns root s = high_of ns root (tree_at ns root) s
 
 pub record Opened (ns : List Node) (root : ℕ) : Type 0 where
-  pub here : treeAt ns root ≡ node root (entry_at ns root) (left_at ns root) (rightAt ns root)
+  pub here : tree_at ns root ≡ node root (entry_at ns root) (left_at ns root) (right_at ns root)
   pub inside : root < length ns
-  pub left : Standing ns (nodeAt ns root).left
-  pub right : Standing ns (nodeAt ns root).right
-  pub split : Split (entries (left_at ns root)) (entry_at ns root) (entries (rightAt ns root))
-  pub level : (tall (left_at ns root) ≤ 1 + tall (rightAt ns root)) × (tall (rightAt ns root) ≤ 1 + tall (left_at ns root))
-  pub apart : (m : ℕ) → times m (places (left_at ns root)) + single m root + times m (places (rightAt ns root)) ≤ 1
+  pub left : Standing ns (node_at ns root).left
+  pub right : Standing ns (node_at ns root).right
+  pub split : Split (entries (left_at ns root)) (entry_at ns root) (entries (right_at ns root))
+  pub level : (tall (left_at ns root) ≤ 1 + tall (right_at ns root)) × (tall (right_at ns root) ≤ 1 + tall (left_at ns root))
+  pub apart : (m : ℕ) → times m (places (left_at ns root)) + single m root + times m (places (right_at ns root)) ≤ 1
 
 module _ (ns : List Node) (i : ℕ) (e : Entry) (l r : Tree) (s : Stands ns i (node i e l r)) where
   count : (m : ℕ) → times m (places l) + single m i + times m (places r) ≤ 1
@@ -104,7 +104,7 @@ module _ (ns : List Node) (i : ℕ) (e : Entry) (l r : Tree) (s : Stands ns i (n
   sorted : Split (entries l) e (entries r)
   sorted = rising_split (entries l) e (entries r) s.rising
 
-  left_stands : Stands ns (nodeAt ns i).left l
+  left_stands : Stands ns (node_at ns i).left l
   left_stands = record {
     lies = s.lies.2;
     root_is = sym (ap (λ n. n.left) s.lies.1);
@@ -114,7 +114,7 @@ module _ (ns : List Node) (i : ℕ) (e : Entry) (l r : Tree) (s : Stands ns i (n
     few = s.few;
   }
 
-  right_stands : Stands ns (nodeAt ns i).right r
+  right_stands : Stands ns (node_at ns i).right r
   right_stands = record {
     lies = s.lies.3;
     root_is = sym (ap (λ n. n.right) s.lies.1);
@@ -128,7 +128,7 @@ module _ (ns : List Node) (i : ℕ) (e : Entry) (l r : Tree) (s : Stands ns i (n
   opened_at =
       let ee : e ≡ entry_at ns i = λ d. record { key = (sym s.lies.1 d).key; note = (sym s.lies.1 d).note } in
       let el : l ≡ left_at ns i = sym (tree_is ns _ l left_stands) in
-      let er : r ≡ rightAt ns i = sym (tree_is ns _ r right_stands) in
+      let er : r ≡ right_at ns i = sym (tree_is ns _ r right_stands) in
       record {
         here = tree_is ns i (node i e l r) s ∙ (λ d. node i (ee d) (el d) (er d));
         inside = s.lies.0;
@@ -144,16 +144,16 @@ opened_of ns root leaf s ne = absurd (ne (sym s.root_is))
 opened_of ns root (node i e l r) s ne = subst (Opened ns) s.root_is (opened_at ns i e l r (subst (λ x. Stands ns x (node i e l r)) (sym s.root_is) s))
 
 pub opened : (ns : List Node) (root : ℕ) → Standing ns root → (root ≡ 65535 → ⊥) → Opened ns root
-opened ns root s ne = opened_of ns root (treeAt ns root) s ne
+opened ns root s ne = opened_of ns root (tree_at ns root) s ne
 
 module _ (ns : List Node) (root m : ℕ) (s : Standing ns root) (o : Opened ns root) (e : high ns root ≡ m) where
-  pub falls_left : high ns (nodeAt ns root).left < m
-  falls_left = omega (arith, e, high_is ns root s, high_is ns (nodeAt ns root).left o.left, ap tall o.here)
+  pub falls_left : high ns (node_at ns root).left < m
+  falls_left = omega (arith, e, high_is ns root s, high_is ns (node_at ns root).left o.left, ap tall o.here)
 
-  pub falls_right : high ns (nodeAt ns root).right < m
-  falls_right = omega (arith, e, high_is ns root s, high_is ns (nodeAt ns root).right o.right, ap tall o.here)
+  pub falls_right : high ns (node_at ns root).right < m
+  falls_right = omega (arith, e, high_is ns root s, high_is ns (node_at ns root).right o.right, ap tall o.here)
 
-pub lies_kept : (ns ms : List Node) (t : Tree) → length ms ≡ length ns → ((j : ℕ) → 1 ≤ times j (places t) → nodeAt ms j ≡ nodeAt ns j) → Lies ns t → Lies ms t
+pub lies_kept : (ns ms : List Node) (t : Tree) → length ms ≡ length ns → ((j : ℕ) → 1 ≤ times j (places t) → node_at ms j ≡ node_at ns j) → Lies ns t → Lies ms t
 lies_kept ns ms leaf long same h = tt
 lies_kept ns ms (node i e l r) long same h =
     let parts : (j : ℕ) → times j (places l ++ i ∷ places r) ≡ times j (places l) + (single j i + times j (places r)) = λ j. times_append j (places l) (i ∷ places r) in (
@@ -175,11 +175,11 @@ module _ (ns ms : List Node) (ps : List ℕ) (k : Kept ns ms ps) (root : ℕ) wh
     few = omega (arith, k.long, s.few);
   }
 
-  pub same_tree : ((m : ℕ) → times m (places_at ns root) + times m ps ≤ 1) → Standing ns root → treeAt ms root ≡ treeAt ns root
-  same_tree out s = tree_is ms root (treeAt ns root) (stands_kept (treeAt ns root) out s)
+  pub same_tree : ((m : ℕ) → times m (places_at ns root) + times m ps ≤ 1) → Standing ns root → tree_at ms root ≡ tree_at ns root
+  same_tree out s = tree_is ms root (tree_at ns root) (stands_kept (tree_at ns root) out s)
 
   pub standing_kept : ((m : ℕ) → times m (places_at ns root) + times m ps ≤ 1) → Standing ns root → Standing ms root
-  standing_kept out s = standing ms root (treeAt ns root) (stands_kept (treeAt ns root) out s)
+  standing_kept out s = standing ms root (tree_at ns root) (stands_kept (tree_at ns root) out s)
 
 pub kept_none : (ns : List Node) (ps : List ℕ) → Kept ns ns ps
 kept_none ns ps = record { long = refl; same = λ j out. refl }

@@ -4,7 +4,7 @@ use Rattle.std.proofs.lemmas.Bool.Decides.{nat_tests}
 use Rattle.trees.specs.declared.Node.{Node}
 use Rattle.trees.specs.Counts.{times}
 use Rattle.trees.specs.Trees.{Tree, leaf, node}
-use Rattle.trees.specs.Pools.{Stands, Standing, treeAt}
+use Rattle.trees.specs.Pools.{Stands, Standing, tree_at}
 use Rattle.trees.proofs.Pools.{standing, tree_is}
 
 abbrev pub small : List Node
@@ -32,5 +32,5 @@ stands = record {
 pub small_stands : Standing small 0
 small_stands = standing small 0 tree stands
 
-pub small_is : treeAt small 0 ≡ tree
+pub small_is : tree_at small 0 ≡ tree
 small_is = tree_is small 0 tree stands

@@ -1,14 +1,14 @@
 // The first and the last entry of a tree, with the entries on the way to them.
 
 ghost use Rattle.trees.specs.Trees.{low_way, high_way};
-ghost use Rattle.trees.specs.Pools.{Standing, treeAt, entries_at};
+ghost use Rattle.trees.specs.Pools.{Standing, tree_at, entries_at};
 ghost use Rattle.trees.specs.Answers.{Saw, foremost, hindmost};
 
 use crate::{Found, NONE, Node};
 
 pub fn first_entry(nodes: &[Node], root: u16) -> Found
     requires { Standing nodes.now root }
-    ensures { Saw result (foremost (entries_at nodes.now root)) (low_way (treeAt nodes.now root)) (treeAt nodes.now root) }
+    ensures { Saw result (foremost (entries_at nodes.now root)) (low_way (tree_at nodes.now root)) (tree_at nodes.now root) }
 {
     if root == NONE {
         return Found {
@@ -26,7 +26,7 @@ pub fn first_entry(nodes: &[Node], root: u16) -> Found
 
 pub fn last_entry(nodes: &[Node], root: u16) -> Found
     requires { Standing nodes.now root }
-    ensures { Saw result (hindmost (entries_at nodes.now root)) (high_way (treeAt nodes.now root)) (treeAt nodes.now root) }
+    ensures { Saw result (hindmost (entries_at nodes.now root)) (high_way (tree_at nodes.now root)) (tree_at nodes.now root) }
 {
     if root == NONE {
         return Found {

@@ -2,14 +2,14 @@
 
 ghost use Rattle.entry.specs.Lists.{at};
 ghost use Rattle.trees.specs.Trees.{seen};
-ghost use Rattle.trees.specs.Pools.{Standing, treeAt, entries_at};
+ghost use Rattle.trees.specs.Pools.{Standing, tree_at, entries_at};
 ghost use Rattle.trees.specs.Answers.{Saw, foremost};
 
 use crate::{Found, NONE, Node};
 
 pub fn find(nodes: &[Node], root: u16, key: u64) -> Found
     requires { Standing nodes.now root }
-    ensures { Saw result (foremost (at key (entries_at nodes.now root))) (seen key (treeAt nodes.now root)) (treeAt nodes.now root) }
+    ensures { Saw result (foremost (at key (entries_at nodes.now root))) (seen key (tree_at nodes.now root)) (tree_at nodes.now root) }
 {
     if root == NONE {
         return Found {

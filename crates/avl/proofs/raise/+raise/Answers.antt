@@ -1,5 +1,5 @@
 use Rattle.std.proofs.Common.{length, get_or, sym, subst, arith}
-use Rattle.trees.specs.Pools.{treeAt}
+use Rattle.trees.specs.Pools.{tree_at}
 use Rattle.avl.specs.Builds.{Built}
 use Rattle.avl.proofs.Builds.{lower, same_low, halves, built_none, order_short, order_left, order_right, build_hook, built_join}
 use Rattle.avl.proofs.raise.+raise.Goals as goal
@@ -42,6 +42,6 @@ pub returns : goal.returns
 returns t c =
     let ha = (halves c.args.order.now c.split_at.result.0.now c.split_at.result.1.now c.split_at-2.result.0.now c.split_at-2.result.1.now c.split_at.ensures.by_index.0 c.split_at-2.ensures.by_index.0 c.split_at-2.ensures.front-len c.split_at.ensures.front-len) in
     let m = get_or c.split_at-2.result.0.now 0 0 in
-    let b : Built c.args.nodes.now c.hang.new.nodes c.args.order.now m (treeAt c.hang.new.nodes m) =
-    subst (λ ms. Built c.args.nodes.now ms c.args.order.now m (treeAt ms m)) (sym c.hang.ensures) (built_join c.args.nodes.now c.args.order.now c.split_at.result.0.now (get_or c.split_at-2.result.0.now 0 0) c.split_at-2.result.1.now c.requires.order ha c.raise-left.new.nodes c.raise-left.result c.raise-left.ensures.built c.raise-right.new.nodes c.raise-right.result c.raise-right.ensures.built) in
+    let b : Built c.args.nodes.now c.hang.new.nodes c.args.order.now m (tree_at c.hang.new.nodes m) =
+    subst (λ ms. Built c.args.nodes.now ms c.args.order.now m (tree_at ms m)) (sym c.hang.ensures) (built_join c.args.nodes.now c.args.order.now c.split_at.result.0.now (get_or c.split_at-2.result.0.now 0 0) c.split_at-2.result.1.now c.requires.order ha c.raise-left.new.nodes c.raise-left.result c.raise-left.ensures.built c.raise-right.new.nodes c.raise-right.result c.raise-right.ensures.built) in
     record { built = b; height = same_low (length c.args.order.now) _ c.args.height b.lowest c.requires.height }

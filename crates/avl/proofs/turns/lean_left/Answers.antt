@@ -1,5 +1,5 @@
 use Rattle.std.proofs.Common.{arith}
-use Rattle.trees.specs.Pools.{nodeAt}
+use Rattle.trees.specs.Pools.{node_at}
 use Rattle.avl.proofs.Levels.{bound, right_open, right_outer_open, right_outer_four, right_outer, right_inner_open, right_inner_four, right_inner}
 use Rattle.avl.proofs.turns.lean_left.Goals as goal
 
@@ -7,10 +7,10 @@ pub slice-copy-out·high : goal.slice-copy-out·high
 slice-copy-out·high c = (right_open c.args.nodes.now c.args.i c.args.left c.args.right c.requires.loose c.requires.two).inside
 
 pub height_of-requires : goal.height_of-requires
-height_of-requires c = bound c.args.nodes.now (nodeAt c.args.nodes.now c.args.right).left (right_open c.args.nodes.now c.args.i c.args.left c.args.right c.requires.loose c.requires.two).left
+height_of-requires c = bound c.args.nodes.now (node_at c.args.nodes.now c.args.right).left (right_open c.args.nodes.now c.args.i c.args.left c.args.right c.requires.loose c.requires.two).left
 
 pub height_of-requires-2 : goal.height_of-requires-2
-height_of-requires-2 c = bound c.args.nodes.now (nodeAt c.args.nodes.now c.args.right).right (right_open c.args.nodes.now c.args.i c.args.left c.args.right c.requires.loose c.requires.two).right
+height_of-requires-2 c = bound c.args.nodes.now (node_at c.args.nodes.now c.args.right).right (right_open c.args.nodes.now c.args.i c.args.left c.args.right c.requires.loose c.requires.two).right
 
 pub slice-copy-out·outer : goal.slice-copy-out·outer
 slice-copy-out·outer c = (right_outer_open c.args.nodes.now c.args.i c.args.left c.args.right c.requires.loose c.requires.two (omega (arith, c.height_of.ensures, c.height_of-2.ensures, c.if-height_of.true))).inside

@@ -1,6 +1,6 @@
 use Rattle.std.proofs.Common.{◌+◌, ◌≤◌, sym, subst, arith}
 use Rattle.trees.specs.Trees.{tall}
-use Rattle.trees.specs.Pools.{entry_at, treeAt}
+use Rattle.trees.specs.Pools.{entry_at, tree_at}
 use Rattle.trees.proofs.Pools.{low, high_is}
 use Rattle.avl.specs.Turns.{Level}
 use Rattle.avl.proofs.Levels.{bound, hang_hook, from_hang}
@@ -29,6 +29,6 @@ hang-requires c = hang_hook c.args.nodes.now c.args.i c.args.left c.args.right c
 
 pub returns : goal.returns
 returns c =
-    let p : tall (treeAt c.args.nodes.now c.args.left) ≤ 1 + tall (treeAt c.args.nodes.now c.args.right) = omega (arith, c.height_of-low.ensures, c.height_of-high.ensures, high_is _ _ c.requires.loose.lower, high_is _ _ c.requires.loose.upper, c.if-low-high.false) in
-    let q : tall (treeAt c.args.nodes.now c.args.right) ≤ 1 + tall (treeAt c.args.nodes.now c.args.left) = omega (arith, c.height_of-low.ensures, c.height_of-high.ensures, high_is _ _ c.requires.loose.lower, high_is _ _ c.requires.loose.upper, c.if-high-low.false) in
-    subst (λ ms. Level c.args.nodes.now ms c.args.i (entry_at c.args.nodes.now c.args.i) (treeAt c.args.nodes.now c.args.left) (treeAt c.args.nodes.now c.args.right) c.args.i (treeAt ms c.args.i)) (sym c.hang.ensures) (from_hang c.args.nodes.now c.args.i c.args.left c.args.right c.requires.loose p q)
+    let p : tall (tree_at c.args.nodes.now c.args.left) ≤ 1 + tall (tree_at c.args.nodes.now c.args.right) = omega (arith, c.height_of-low.ensures, c.height_of-high.ensures, high_is _ _ c.requires.loose.lower, high_is _ _ c.requires.loose.upper, c.if-low-high.false) in
+    let q : tall (tree_at c.args.nodes.now c.args.right) ≤ 1 + tall (tree_at c.args.nodes.now c.args.left) = omega (arith, c.height_of-low.ensures, c.height_of-high.ensures, high_is _ _ c.requires.loose.lower, high_is _ _ c.requires.loose.upper, c.if-high-low.false) in
+    subst (λ ms. Level c.args.nodes.now ms c.args.i (entry_at c.args.nodes.now c.args.i) (tree_at c.args.nodes.now c.args.left) (tree_at c.args.nodes.now c.args.right) c.args.i (tree_at ms c.args.i)) (sym c.hang.ensures) (from_hang c.args.nodes.now c.args.i c.args.left c.args.right c.requires.loose p q)

@@ -1,6 +1,6 @@
 use Rattle.std.proofs.Common.{◌≡◌, suc, ◌+◌, ◌-◌, ◌<◌, arith}
 use mathlib.Core.Path.{fun_ext}
-use Rattle.slots.specs.Slots.{nodeAt}
+use Rattle.slots.specs.Slots.{node_at}
 use Rattle.slots.proofs.Carried.{put_apart, put_held, put_pairs}
 use Rattle.cuckoo.specs.Layout.{rests, pushes, spills}
 use Rattle.cuckoo.proofs.Pushes.{push_start, at_within, put_placed, put_packed, pushed, spill_within, spill_placed, spill_packed, spill_empty}
@@ -27,7 +27,7 @@ returns-then-resident-eq0 c =
 pub loop-push-preserved : goal.loop-push-preserved
 loop-push-preserved c =
     let k : 32 - c.loop-push.-push ≡ suc (32 - (c.loop-push.-push + 1)) = omega arith in
-    let taken : 0 < nodeAt c.loop-push.slots c.loop-push.at = omega arith in
+    let taken : 0 < node_at c.loop-push.slots c.loop-push.at = omega arith in
     (pushed c.loop-push.invariant.0 (omega arith) c.other-at.result c.other-at.ensures.below c.other-at.ensures.home, λ ys m h. c.loop-push.invariant.1 ys m (rw k (pushes {at = c.loop-push.at} taken (rw c.other-at.ensures.value at h))))
 
 pub bounds-slots-spilled : goal.bounds-slots-spilled

@@ -2,7 +2,7 @@ use Rattle.std.proofs.Common.{◌<◌, Some, sym, refl, ap, ◌∙◌, arith}
 use Rattle.std.specs.Option.{option_or}
 use Rattle.entry.specs.Lists.{from}
 use Rattle.trees.specs.Trees.{entries}
-use Rattle.trees.specs.Pools.{entry_at, left_at, rightAt, nodeAt}
+use Rattle.trees.specs.Pools.{entry_at, left_at, right_at, node_at}
 use Rattle.trees.specs.Answers.{foremost}
 use Rattle.trees.proofs.Pools.{opened, end_is, falls_left, falls_right, low}
 use Rattle.trees.proofs.Looks.{saw_none, saw_here, saw_step, front_or, tall_open, from_here, from_low, from_high, path_here, path_low, path_high}
@@ -58,7 +58,7 @@ returns t c =
     let key = c.args.key in
     let o = opened ns root c.requires c.if-root-eq-NONE.false in
     let s = c.next-left.ensures in
-    let lt : key < (nodeAt ns root).key = omega (arith, c.if-here-key.false, c.if-key-here.false) in
+    let lt : key < (node_at ns root).key = omega (arith, c.if-here-key.false, c.if-key-here.false) in
     saw_step _ _ _ _ _ _ _ _ s
-    (c.or.ensures ∙ (λ d. option_or (s.entry d) (Some (c.entry-2.ensures d))) ∙ front_or (from key (entries (left_at ns root))) (entry_at ns root) (entries (rightAt ns root)) ∙ sym (ap foremost (from_low ns root o key lt)))
+    (c.or.ensures ∙ (λ d. option_or (s.entry d) (Some (c.entry-2.ensures d))) ∙ front_or (from key (entries (left_at ns root))) (entry_at ns root) (entries (right_at ns root)) ∙ sym (ap foremost (from_low ns root o key lt)))
     (path_low ns root o key lt) (omega (arith, tall_open ns root o))

@@ -2,7 +2,7 @@ use Rattle.std.proofs.Common.{◌<◌, [], Some, sym, refl, ap, ◌∙◌, arith
 use Rattle.std.specs.Option.{option_or}
 use Rattle.entry.specs.Lists.{upto}
 use Rattle.trees.specs.Trees.{entries}
-use Rattle.trees.specs.Pools.{entry_at, left_at, rightAt, nodeAt}
+use Rattle.trees.specs.Pools.{entry_at, left_at, right_at, node_at}
 use Rattle.trees.specs.Answers.{hindmost}
 use Rattle.trees.proofs.Pools.{opened, end_is, falls_left, falls_right, low}
 use Rattle.trees.proofs.Looks.{saw_none, saw_here, saw_step, back_or, tall_open, upto_here, upto_low, upto_high, path_here, path_low, path_high}
@@ -58,7 +58,7 @@ returns t c =
     let key = c.args.key in
     let o = opened ns root c.requires c.if-root-eq-NONE.false in
     let s = c.last-right.ensures in
-    let lt : (nodeAt ns root).key < key = omega (arith, c.if-key-here-2.false, c.if-key-here.false) in
+    let lt : (node_at ns root).key < key = omega (arith, c.if-key-here-2.false, c.if-key-here.false) in
     saw_step _ _ _ _ _ _ _ _ s
-    (c.or.ensures ∙ (λ d. option_or (s.entry d) (Some (c.entry-2.ensures d))) ∙ back_or (entries (left_at ns root)) (entry_at ns root) (upto key (entries (rightAt ns root))) ∙ sym (ap hindmost (upto_high ns root o key lt)))
+    (c.or.ensures ∙ (λ d. option_or (s.entry d) (Some (c.entry-2.ensures d))) ∙ back_or (entries (left_at ns root)) (entry_at ns root) (upto key (entries (right_at ns root))) ∙ sym (ap hindmost (upto_high ns root o key lt)))
     (path_high ns root o key lt) (omega (arith, tall_open ns root o))

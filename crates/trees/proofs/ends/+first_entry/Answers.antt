@@ -1,7 +1,7 @@
 use Rattle.std.proofs.Common.{Some, sym, refl, ap, ◌∙◌, arith}
 use Rattle.std.specs.Option.{option_or}
 use Rattle.trees.specs.Trees.{entries}
-use Rattle.trees.specs.Pools.{entry_at, left_at, rightAt}
+use Rattle.trees.specs.Pools.{entry_at, left_at, right_at}
 use Rattle.trees.specs.Answers.{foremost}
 use Rattle.trees.proofs.Pools.{opened, end_is, falls_left, low}
 use Rattle.trees.proofs.Looks.{saw_none, front_or, entries_open, tall_open, low_open}
@@ -30,7 +30,7 @@ returns t c =
     let o = opened ns root c.requires c.if-root-eq-NONE.false in
     let s = c.first_entry-left.ensures in
     record {
-      entry = c.or.ensures ∙ (λ d. option_or (s.entry d) (Some (c.entry.ensures d))) ∙ front_or (entries (left_at ns root)) (entry_at ns root) (entries (rightAt ns root)) ∙ sym (ap foremost (entries_open ns root o));
+      entry = c.or.ensures ∙ (λ d. option_or (s.entry d) (Some (c.entry.ensures d))) ∙ front_or (entries (left_at ns root)) (entry_at ns root) (entries (right_at ns root)) ∙ sym (ap foremost (entries_open ns root o));
       visits = omega (arith, s.visits, low_open ns root o);
       few = omega (arith, s.few, tall_open ns root o);
     }

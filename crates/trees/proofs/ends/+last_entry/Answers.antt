@@ -1,7 +1,7 @@
 use Rattle.std.proofs.Common.{Some, sym, refl, ap, ◌∙◌, arith}
 use Rattle.std.specs.Option.{option_or}
 use Rattle.trees.specs.Trees.{entries}
-use Rattle.trees.specs.Pools.{entry_at, left_at, rightAt}
+use Rattle.trees.specs.Pools.{entry_at, left_at, right_at}
 use Rattle.trees.specs.Answers.{hindmost}
 use Rattle.trees.proofs.Pools.{opened, end_is, falls_right, low}
 use Rattle.trees.proofs.Looks.{saw_none, back_or, entries_open, tall_open, high_open}
@@ -30,7 +30,7 @@ returns t c =
     let o = opened ns root c.requires c.if-root-eq-NONE.false in
     let s = c.last_entry-right.ensures in
     record {
-      entry = c.or.ensures ∙ (λ d. option_or (s.entry d) (Some (c.entry.ensures d))) ∙ back_or (entries (left_at ns root)) (entry_at ns root) (entries (rightAt ns root)) ∙ sym (ap hindmost (entries_open ns root o));
+      entry = c.or.ensures ∙ (λ d. option_or (s.entry d) (Some (c.entry.ensures d))) ∙ back_or (entries (left_at ns root)) (entry_at ns root) (entries (right_at ns root)) ∙ sym (ap hindmost (entries_open ns root o));
       visits = omega (arith, s.visits, high_open ns root o);
       few = omega (arith, s.few, tall_open ns root o);
     }

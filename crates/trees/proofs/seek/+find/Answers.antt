@@ -1,7 +1,7 @@
 use Rattle.std.proofs.Common.{◌<◌, Some, None, sym, refl, ap, ◌∙◌, subst, arith}
 use Rattle.entry.specs.Lists.{at}
 use Rattle.trees.specs.Trees.{seen}
-use Rattle.trees.specs.Pools.{left_at, rightAt, nodeAt}
+use Rattle.trees.specs.Pools.{left_at, right_at, node_at}
 use Rattle.trees.specs.Answers.{foremost, Saw}
 use Rattle.trees.proofs.Pools.{opened, end_is, falls_left, falls_right, low}
 use Rattle.trees.proofs.Looks.{saw_none, saw_here, tall_open, at_here, at_low, at_high, path_here, path_low, path_high}
@@ -50,7 +50,7 @@ returns t c =
           let s : Saw c.if-key-here-2.under (foremost (at key _)) (seen key (left_at ns root)) (left_at ns root) = subst (λ x. Saw x _ _ _) (sym w.under_is) w.find-under.ensures in
           record { entry = s.entry ∙ sym (ap foremost (at_low ns root o key w.if-key-here-2.true)); visits = omega (arith, s.visits, path_low ns root o key w.if-key-here-2.true); few = omega (arith, s.few, tall_open ns root o) }
       | else-key-here-2 w ↦
-          let s : Saw c.if-key-here-2.under (foremost (at key _)) (seen key (rightAt ns root)) (rightAt ns root) = subst (λ x. Saw x _ _ _) (sym w.under_is) w.find-under-else-key-here-2.ensures in
-          let gt : (nodeAt ns root).key < key = omega (arith, w.if-key-here-2.false, c.if-key-here.false) in
+          let s : Saw c.if-key-here-2.under (foremost (at key _)) (seen key (right_at ns root)) (right_at ns root) = subst (λ x. Saw x _ _ _) (sym w.under_is) w.find-under-else-key-here-2.ensures in
+          let gt : (node_at ns root).key < key = omega (arith, w.if-key-here-2.false, c.if-key-here.false) in
           record { entry = s.entry ∙ sym (ap foremost (at_high ns root o key gt)); visits = omega (arith, s.visits, path_high ns root o key gt); few = omega (arith, s.few, tall_open ns root o) }
     ]

@@ -1,7 +1,7 @@
 use Rattle.std.proofs.Common.{◌+◌, ◌<◌, length, set, sym, ap, ◌∙◌, arith, length-set, rules}
 use Rattle.entry.specs.Lists.{between}
 use Rattle.trees.specs.Trees.{entries}
-use Rattle.trees.specs.Pools.{entry_at, left_at, rightAt}
+use Rattle.trees.specs.Pools.{entry_at, left_at, right_at}
 use Rattle.trees.specs.Answers.{laid}
 use Rattle.trees.proofs.Pools.{opened, falls_left, falls_right}
 use Rattle.trees.proofs.Looks.{span_low, span_high, span_both, span_long}
@@ -73,7 +73,7 @@ returns t c =
     let o = opened ns root c.requires.tree c.if-root-eq-NONE.false in
     let m = c.span-middle.ensures in
     let lows = between c.args.first c.args.second (entries (left_at ns root)) in
-    let highs = between c.args.first c.args.second (entries (rightAt ns root)) in
+    let highs = between c.args.first c.args.second (entries (right_at ns root)) in
     record {
       places = c.span-2.ensures.places
           ∙ (λ d. laid (set (m.places d) (m.end d) (c.entry.ensures d)) (m.end d + 1) highs)

@@ -1,6 +1,6 @@
 use Rattle.std.proofs.Common.{◌+◌, ◌<◌, length, set, sym, ap, ◌∙◌, arith, length-set, rules}
 use Rattle.trees.specs.Trees.{places}
-use Rattle.trees.specs.Pools.{left_at, rightAt}
+use Rattle.trees.specs.Pools.{left_at, right_at}
 use Rattle.trees.specs.Answers.{laid}
 use Rattle.trees.proofs.Pools.{opened, falls_left, falls_right}
 use Rattle.trees.proofs.Looks.{walk_both, walk_long}
@@ -43,7 +43,7 @@ returns t c =
     let o = opened ns root c.requires.tree c.if-root-eq-NONE.false in
     let m = c.walk-middle.ensures in
     let lows = places (left_at ns root) in
-    let highs = places (rightAt ns root) in
+    let highs = places (right_at ns root) in
     record {
       places = c.walk.ensures.places
           ∙ (λ d. laid (set (m.places d) (m.end d) root) (m.end d + 1) highs)

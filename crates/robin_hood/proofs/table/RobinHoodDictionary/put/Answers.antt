@@ -1,6 +1,6 @@
 use Rattle.std.proofs.Common.{sym, refl, ap, ◌∙◌, arith}
 use Rattle.dictionary.specs.Pairs.{one_more}
-use Rattle.slots.specs.Slots.{pairsOf, held}
+use Rattle.slots.specs.Slots.{pairs_of, held}
 use Rattle.slots.proofs.Rows.{pairs_found, pairs_absent}
 use Rattle.slots.proofs.Laws.{accepts_full, accepts_held, accepts_room}
 use Rattle.robin_hood.proofs.table.RobinHoodDictionary.put.Goals as goal
@@ -10,7 +10,7 @@ returns-then-self-ge-CAPACITY c =
     let xs = c.args.self.now.slots in
     let none = pairs_absent xs c.args.node (omega arith) c.in-Err.ensures.absent in
     record {
-      value = sym (accepts_full (pairsOf xs) (held xs) 768 c.args.node none (omega arith));
+      value = sym (accepts_full (pairs_of xs) (held xs) 768 c.args.node none (omega arith));
       pairs = refl;
       held = refl;
       room = refl;
@@ -22,7 +22,7 @@ returns-in-Ok c =
     let xs = c.args.self.now.slots in
     let some = pairs_found xs c.args.self.now.apart c.in-Ok.at c.args.node (omega arith) c.in-Ok.ensures.walk.1 in
     record {
-      value = sym (accepts_held (pairsOf xs) (held xs) 768 c.args.node (omega arith) some);
+      value = sym (accepts_held (pairs_of xs) (held xs) 768 c.args.node (omega arith) some);
       pairs = c.renew.ensures.pairs;
       held = c.renew.ensures.held ∙ sym (ap (λ o. one_more o (held xs)) some);
       room = refl;
@@ -34,7 +34,7 @@ returns-else-self-ge-CAPACITY c =
     let xs = c.args.self.now.slots in
     let none = pairs_absent xs c.args.node (omega arith) c.in-Err.ensures.absent in
     record {
-      value = sym (accepts_room (pairsOf xs) (held xs) 768 c.args.node (omega arith) (omega arith));
+      value = sym (accepts_room (pairs_of xs) (held xs) 768 c.args.node (omega arith) (omega arith));
       pairs = c.insert.ensures.pairs;
       held = c.insert.ensures.held ∙ sym (ap (λ o. one_more o (held xs)) none);
       room = refl;

@@ -11,7 +11,7 @@ use Rattle.trees.specs.Answers.{foremost}
 use Rattle.trees.specs.Trees.{seen}
 use Rattle.buckets.specs.Tables.{rep_of, root_of, order_of}
 use Rattle.buckets.proofs.Lays.{small}
-use Rattle.trees.specs.Pools.{Standing, treeAt, entries_at}
+use Rattle.trees.specs.Pools.{Standing, tree_at, entries_at}
 use Rattle.ordered.specs.declared.calls.Answer.{Answer}
 use Rattle.ordered.specs.declared.calls.Call.TheVariants.{Find}
 use Rattle.ordered.specs.declared.refusal.Refusal.TheVariants.{Absent}
@@ -73,7 +73,7 @@ returns g c =
     let m = holder (rep_of i.table) (order_of i.table) k in
     let root : c.root-root.result ≡ root_of i.table m = c.root-root.ensures ∙ ap (root_of i.table) c.locate-at.ensures.number in
     let entry = c.find-found.ensures.entry ∙ ap (λ r. foremost (at k (entries_at i.pool.nodes r))) root in
-    let seen_is = c.find-found.ensures.visits ∙ ap (λ r. seen k (treeAt i.pool.nodes r)) root in
+    let seen_is = c.find-found.ensures.visits ∙ ap (λ r. seen k (tree_at i.pool.nodes r)) root in
     let fr = c.locate-at.ensures.frames in
     let q : c.reply.result ≡ reply_of (foremost (at k (items_of i.table i.pool m))) Absent (searching w (reps_of i.table) k) (seen k (tree_of i.table i.pool m)) =
     c.reply.ensures

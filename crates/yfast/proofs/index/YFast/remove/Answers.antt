@@ -11,7 +11,7 @@ use Rattle.trie.specs.Sound.{reps_of}
 use Rattle.forest.specs.Forests.{items_of, tree_of, row_of}
 use Rattle.trees.specs.Answers.{foremost}
 use Rattle.trees.specs.Trees.{seen}
-use Rattle.trees.specs.Pools.{Standing, treeAt, entries_at}
+use Rattle.trees.specs.Pools.{Standing, tree_at, entries_at}
 use Rattle.buckets.specs.Tables.{rep_of, root_of, order_of}
 use Rattle.buckets.proofs.Lays.{small}
 use Rattle.rules.specs.Buckets.{total}
@@ -77,7 +77,7 @@ leave-change-requires g c =
     let root : c.root-root.result ≡ root_of i.table m = c.root-root.ensures ∙ ap (root_of i.table) c.locate-at.ensures.number in
     let xs = at k (items_of i.table i.pool m) in
     let found : c.find-found.result.entry ≡ foremost xs = c.find-found.ensures.entry ∙ ap (λ r. foremost (at k (entries_at i.pool.nodes r))) root in
-    let seen_is : c.find-found.result.visits ≡ seen k (tree_of i.table i.pool m) = c.find-found.ensures.visits ∙ ap (λ r. seen k (treeAt i.pool.nodes r)) root in
+    let seen_is : c.find-found.result.visits ≡ seen k (tree_of i.table i.pool m) = c.find-found.ensures.visits ∙ ap (λ r. seen k (tree_at i.pool.nodes r)) root in
     let fr = c.locate-at.ensures.frames in
     let big = g.met.K.Key.wide.0 in
     let fits = one_fits i.shut w k c.in-default.ensures in
@@ -106,7 +106,7 @@ overflow-add-result g c =
     let root : c.root-root.result ≡ root_of i.table m = c.root-root.ensures ∙ ap (root_of i.table) c.locate-at.ensures.number in
     let xs = at k (items_of i.table i.pool m) in
     let found : c.find-found.result.entry ≡ foremost xs = c.find-found.ensures.entry ∙ ap (λ r. foremost (at k (entries_at i.pool.nodes r))) root in
-    let seen_is : c.find-found.result.visits ≡ seen k (tree_of i.table i.pool m) = c.find-found.ensures.visits ∙ ap (λ r. seen k (treeAt i.pool.nodes r)) root in
+    let seen_is : c.find-found.result.visits ≡ seen k (tree_of i.table i.pool m) = c.find-found.ensures.visits ∙ ap (λ r. seen k (tree_at i.pool.nodes r)) root in
     let fr = c.locate-at.ensures.frames in
     let big = g.met.K.Key.wide.0 in
     let fits = one_fits i.shut w k c.in-default.ensures in
@@ -131,7 +131,7 @@ returns-in-default-entry g c =
     let root : c.root-root.result ≡ root_of i.table m = c.root-root.ensures ∙ ap (root_of i.table) c.locate-at.ensures.number in
     let xs = at k (items_of i.table i.pool m) in
     let found : c.find-found.result.entry ≡ foremost xs = c.find-found.ensures.entry ∙ ap (λ r. foremost (at k (entries_at i.pool.nodes r))) root in
-    let seen_is : c.find-found.result.visits ≡ seen k (tree_of i.table i.pool m) = c.find-found.ensures.visits ∙ ap (λ r. seen k (treeAt i.pool.nodes r)) root in
+    let seen_is : c.find-found.result.visits ≡ seen k (tree_of i.table i.pool m) = c.find-found.ensures.visits ∙ ap (λ r. seen k (tree_at i.pool.nodes r)) root in
     let fr = c.locate-at.ensures.frames in
     let big = g.met.K.Key.wide.0 in
     let fits = one_fits i.shut w k c.in-default.ensures in
@@ -162,7 +162,7 @@ returns g c =
     let root : c.root-root.result ≡ root_of i.table m = c.root-root.ensures ∙ ap (root_of i.table) c.locate-at.ensures.number in
     let xs = at k (items_of i.table i.pool m) in
     let found : c.find-found.result.entry ≡ foremost xs = c.find-found.ensures.entry ∙ ap (λ r. foremost (at k (entries_at i.pool.nodes r))) root in
-    let seen_is : c.find-found.result.visits ≡ seen k (tree_of i.table i.pool m) = c.find-found.ensures.visits ∙ ap (λ r. seen k (treeAt i.pool.nodes r)) root in
+    let seen_is : c.find-found.result.visits ≡ seen k (tree_of i.table i.pool m) = c.find-found.ensures.visits ∙ ap (λ r. seen k (tree_at i.pool.nodes r)) root in
     let fr = c.locate-at.ensures.frames in
     let big = g.met.K.Key.wide.0 in
     let fits = one_fits i.shut w k c.in-default.ensures in
