@@ -49,20 +49,20 @@ low ns root t s = low_of ns t s.lies s.few s.apart s.balanced
 pub size : (ns : List Node) (root : ℕ) → Standing ns root → length (entries_at ns root) ≤ 512
 size ns root s = size_of ns (tree_at ns root) s.lies s.few s.apart
 
-tree_for : (f : ℕ) (ns : List Node) (t : Tree) → length ns ≤ 512 → Lies ns t → tall t ≤ f → tree_for f ns (top t) ≡ t
+tree_for_is : (f : ℕ) (ns : List Node) (t : Tree) → length ns ≤ 512 → Lies ns t → tall t ≤ f → tree_for f ns (top t) ≡ t
 unfolding tree_for
-tree_for zero ns leaf few h le = refl
-tree_for zero ns (node i e l r) few h le = absurd (omega arith)
-tree_for (suc f) ns leaf few h le = refl
-tree_for (suc f) ns (node i e l r) few h le =
+tree_for_is zero ns leaf few h le = refl
+tree_for_is zero ns (node i e l r) few h le = absurd (omega arith)
+tree_for_is (suc f) ns leaf few h le = refl
+tree_for_is (suc f) ns (node i e l r) few h le =
     let lt : i < length ns = h.0 in
-    let a : tree_for f ns (node_at ns i).left ≡ l = ap (λ n. tree_for f ns n.left) h.1 ∙ tree_for f ns l few h.2 (omega arith) in
-    let b : tree_for f ns (node_at ns i).right ≡ r = ap (λ n. tree_for f ns n.right) h.1 ∙ tree_for f ns r few h.3 (omega arith) in
+    let a : tree_for f ns (node_at ns i).left ≡ l = ap (λ n. tree_for f ns n.left) h.1 ∙ tree_for_is f ns l few h.2 (omega arith) in
+    let b : tree_for f ns (node_at ns i).right ≡ r = ap (λ n. tree_for f ns n.right) h.1 ∙ tree_for_is f ns r few h.3 (omega arith) in
     rw (ne_eqb i 65535 (omega arith), tree_for) (λ d. node i (record { key = (h.1 d).key; note = (h.1 d).note }) (a d) (b d))
 
 pub tree_is : (ns : List Node) (root : ℕ) (t : Tree) → Stands ns root t → tree_at ns root ≡ t
 unfolding tree_at
-tree_is ns root t s = ap (tree_for 12 ns) (sym s.root_is) ∙ tree_for 12 ns t s.few s.lies (low ns root t s)
+tree_is ns root t s = ap (tree_for 12 ns) (sym s.root_is) ∙ tree_for_is 12 ns t s.few s.lies (low ns root t s)
 
 pub standing : (ns : List Node) (root : ℕ) (t : Tree) → Stands ns root t → Standing ns root
 standing ns root t s = subst (Stands ns root) (sym (tree_is ns root t s)) s

@@ -23,8 +23,8 @@ level-top-requires t c =
       high = near.1;
     }
 
-pub overflow-add-result : goal.overflow-add-result
-overflow-add-result t c =
+pub overflow_add-result : goal.overflow_add-result
+overflow_add-result t c =
     let o = opened c.args.nodes.now c.args.root c.requires.stands (held_root c.args.nodes.now c.args.root c.args.key c.requires) in
     omega (arith, c.remove-left.ensures.few, low _ _ _ o.left)
 
@@ -48,8 +48,8 @@ level-top-requires-then-here-key t c =
       high = near.1;
     }
 
-pub overflow-add-result-then-here-key : goal.overflow-add-result-then-here-key
-overflow-add-result-then-here-key t c =
+pub overflow_add-result-then-here-key : goal.overflow_add-result-then-here-key
+overflow_add-result-then-here-key t c =
     let o = opened c.args.nodes.now c.args.root c.requires.stands (held_root c.args.nodes.now c.args.root c.args.key c.requires) in
     omega (arith, c.remove-right.ensures.few, low _ _ _ o.right)
 

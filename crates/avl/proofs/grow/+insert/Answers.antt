@@ -23,8 +23,8 @@ level-top-requires t c =
     let near = near_left c.args.nodes.now c.args.root c.args.fresh c.args.new c.requires o c.insert-left.new.nodes c.insert-left.result c.if-new-here.true c.insert-left.ensures in
     record { loose = loose_left c.args.nodes.now c.args.root c.args.fresh c.args.new c.requires o c.insert-left.new.nodes c.insert-left.result c.if-new-here.true c.insert-left.ensures; low = near.0; high = near.1 }
 
-pub overflow-add-result : goal.overflow-add-result
-overflow-add-result t c =
+pub overflow_add-result : goal.overflow_add-result
+overflow_add-result t c =
     let o = opened c.args.nodes.now c.args.root c.requires.stands c.if-root-eq-NONE.false in
     omega (arith, c.insert-left.ensures.few, low _ _ _ o.left)
 
@@ -44,8 +44,8 @@ level-top-requires-2 t c =
     let near = near_right c.args.nodes.now c.args.root c.args.fresh c.args.new c.requires o c.insert-right.new.nodes c.insert-right.result c.if-new-here.false c.insert-right.ensures in
     record { loose = loose_right c.args.nodes.now c.args.root c.args.fresh c.args.new c.requires o c.insert-right.new.nodes c.insert-right.result c.if-new-here.false c.insert-right.ensures; low = near.0; high = near.1 }
 
-pub overflow-add-result-2 : goal.overflow-add-result-2
-overflow-add-result-2 t c =
+pub overflow_add-result-2 : goal.overflow_add-result-2
+overflow_add-result-2 t c =
     let o = opened c.args.nodes.now c.args.root c.requires.stands c.if-root-eq-NONE.false in
     omega (arith, c.insert-right.ensures.few, low _ _ _ o.right)
 

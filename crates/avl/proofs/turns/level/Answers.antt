@@ -12,11 +12,11 @@ height_of-low-requires c = bound c.args.nodes.now c.args.left c.requires.loose.l
 pub height_of-high-requires : goal.height_of-high-requires
 height_of-high-requires c = bound c.args.nodes.now c.args.right c.requires.loose.upper
 
-pub overflow-add-high : goal.overflow-add-high
-overflow-add-high c = omega (arith, c.height_of-high.ensures, high_is _ _ c.requires.loose.upper, low _ _ _ c.requires.loose.upper)
+pub overflow_add-high : goal.overflow_add-high
+overflow_add-high c = omega (arith, c.height_of-high.ensures, high_is _ _ c.requires.loose.upper, low _ _ _ c.requires.loose.upper)
 
-pub overflow-add-low : goal.overflow-add-low
-overflow-add-low c = omega (arith, c.height_of-low.ensures, high_is _ _ c.requires.loose.lower, low _ _ _ c.requires.loose.lower)
+pub overflow_add-low : goal.overflow_add-low
+overflow_add-low c = omega (arith, c.height_of-low.ensures, high_is _ _ c.requires.loose.lower, low _ _ _ c.requires.loose.lower)
 
 pub lean_right-requires : goal.lean_right-requires
 lean_right-requires c = record { loose = c.requires.loose; two = omega (arith, c.height_of-low.ensures, c.height_of-high.ensures, high_is _ _ c.requires.loose.lower, high_is _ _ c.requires.loose.upper, c.if-low-high.true, c.requires.low) }

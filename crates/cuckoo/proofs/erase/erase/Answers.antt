@@ -26,8 +26,8 @@ bounds-slots-last c = omega (arith, packed_within c.args.slots.now c.args.spille
 pub bounds-slots-last-2 : goal.bounds-slots-last-2
 bounds-slots-last-2 c = omega (arith, packed_within c.args.slots.now c.args.spilled c.requires.packed)
 
-pub overflow-sub-result : goal.overflow-sub-result
-overflow-sub-result c = omega (arith, at_below c.args.slots.now c.args.spilled c.args.at c.requires.packed (omega arith) c.requires.some)
+pub overflow_sub-result : goal.overflow_sub-result
+overflow_sub-result c = omega (arith, at_below c.args.slots.now c.args.spilled c.args.at c.requires.packed (omega arith) c.requires.some)
 
 pub returns : goal.returns
 returns c =

@@ -33,8 +33,8 @@ loop-push-preserved c =
 pub bounds-slots-spilled : goal.bounds-slots-spilled
 bounds-slots-spilled c = omega (arith, spill_within c.loop-push.invariant.0 c.requires.room)
 
-pub overflow-add-result : goal.overflow-add-result
-overflow-add-result c = omega (arith, spill_within c.loop-push.invariant.0 c.requires.room)
+pub overflow_add-result : goal.overflow_add-result
+overflow_add-result c = omega (arith, spill_within c.loop-push.invariant.0 c.requires.room)
 
 pub returns : goal.returns
 returns c =

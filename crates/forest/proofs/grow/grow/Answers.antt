@@ -19,8 +19,8 @@ set_root-requires c = record { stands = c.requires.forest.table; within = small 
 pub size-size-requires : goal.size-size-requires
 size-size-requires c = record { long = c.set_root.ensures.stands.long; within = small c.args.table.now c.requires.forest.table c.args.number c.requires.stands }
 
-pub overflow-add-size : goal.overflow-add-size
-overflow-add-size c =
+pub overflow_add-size : goal.overflow_add-size
+overflow_add-size c =
     let t = c.args.table.now in
     omega (
       arith,

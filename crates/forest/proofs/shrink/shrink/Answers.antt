@@ -25,8 +25,8 @@ set_root-requires c = record { stands = c.requires.forest.table; within = small 
 pub size-size-requires : goal.size-size-requires
 size-size-requires c = record { long = c.set_root.ensures.stands.long; within = small c.args.table.now c.requires.forest.table c.args.number c.requires.stands }
 
-pub overflow-sub-size : goal.overflow-sub-size
-overflow-sub-size c = omega (
+pub overflow_sub-size : goal.overflow_sub-size
+overflow_sub-size c = omega (
   arith,
   c.size-size.ensures,
   ap (λ g. g c.args.number) c.set_root.ensures.reads.size,

@@ -2,14 +2,14 @@ use Rattle.std.proofs.Common.{arith}
 use Rattle.leases.proofs.Carrying.{due_none, due_later, due_taken}
 use Rattle.leases.proofs.events.due.Goals as goal
 
-pub returns-in-default : goal.returns-in-default
-returns-in-default g c =
+pub returns-in_default : goal.returns-in_default
+returns-in_default g c =
     let v = g.E.OrderedIndex.view c.args.events.now in
     let u = g.E.OrderedIndex.view c.next-earliest.new.self in
     let law = g.met.E.OrderedIndex.lawful c.args.events.now c.requires.sound in
     record {
       sound = c.next-earliest.ensures.sound;
-      planned = due_none v law c.requires.unshut c.args.moment u c.next-earliest.result c.next-earliest.ensures.step c.in-default.field-0 c.in-default.is;
+      planned = due_none v law c.requires.unshut c.args.moment u c.next-earliest.result c.next-earliest.ensures.step c.in_default.field-0 c.in_default.is;
     }
 
 pub returns-then-event-moment : goal.returns-then-event-moment

@@ -2,7 +2,7 @@ use Rattle.std.proofs.Common.{◌^◌, ◌<◌, ◌≤◌, length, arith}
 use Rattle.leases.proofs.Deciding.{Free}
 use Rattle.leases.proofs.Carrying.{lease_full, lease_spaced, found_small, lease_shared, free_none, free_short, lease_granted}
 use Rattle.leases.proofs.stretches.lease.Goals as goal
-use Rattle.leases.proofs.stretches.lease.Goals.{in-Ok+else-finish-first, in-default}
+use Rattle.leases.proofs.stretches.lease.Goals.{in-Ok+else-finish-first, in_default}
 
 pub returns-then-len-limit : goal.returns-then-len-limit
 returns-then-len-limit g c =
@@ -54,9 +54,9 @@ returns g c =
       | in-Ok+else-finish-first w ↦
           free_short v law c.requires.leased c.args.first c.args.second c.args.holder.number c.args.holder.bounds c.requires.fit u c.last-before.result step room
           w.in-Ok.standing w.in-Ok.is (omega (arith, w.if-finish-first.false, w.finish.ensures))
-      | in-default w ↦
+      | in_default w ↦
           free_none v law c.requires.leased c.args.first c.args.second c.args.holder.number c.args.holder.bounds c.requires.fit u c.last-before.result step room
-          w.in-default.field-0 w.in-default.is
+          w.in_default.field-0 w.in_default.is
     ] in
     let added = rw c.entered-entry.ensures at c.add-added.ensures.step in
     let both =

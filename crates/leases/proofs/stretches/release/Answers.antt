@@ -2,8 +2,8 @@ use Rattle.std.proofs.Common.{sym, ◌∙◌}
 use Rattle.leases.proofs.Carrying.{release_spaced, release_absent, release_other, release_done}
 use Rattle.leases.proofs.stretches.release.Goals as goal
 
-pub returns-in-default : goal.returns-in-default
-returns-in-default g c =
+pub returns-in_default : goal.returns-in_default
+returns-in_default g c =
     let v = g.L.OrderedIndex.view c.args.leases.now in
     let u = g.L.OrderedIndex.view c.find-found.new.self in
     let law = g.met.L.OrderedIndex.lawful c.args.leases.now c.requires.sound in
@@ -11,7 +11,7 @@ returns-in-default g c =
     record {
       sound = c.find-found.ensures.sound;
       spaced = release_spaced v law c.requires.leased c.args.start c.args.holder.number c.requires.fit u c.find-found.result step;
-      planned = release_absent v law c.requires.leased c.args.start c.args.holder.number c.requires.fit u c.find-found.result step c.in-default.field-0 c.in-default.is;
+      planned = release_absent v law c.requires.leased c.args.start c.args.holder.number c.requires.fit u c.find-found.result step c.in_default.field-0 c.in_default.is;
     }
 
 pub returns-then-holder-number : goal.returns-then-holder-number

@@ -4,7 +4,7 @@ use Rattle.leases.specs.Commands.{who_plan}
 use Rattle.ordered.specs.declared.refusal.Refusal.TheVariants.{Absent}
 use Rattle.leases.proofs.Carrying.{who_small, who_none, who_short, who_found, who_spaced}
 use Rattle.leases.proofs.stretches.who.Goals as goal
-use Rattle.leases.proofs.stretches.who.Goals.{in-Ok+else-finish-station, in-default}
+use Rattle.leases.proofs.stretches.who.Goals.{in-Ok+else-finish-station, in_default}
 
 pub finish-requires : goal.finish-requires
 finish-requires g c =
@@ -38,6 +38,6 @@ returns g c =
     elim c.match-below.branch [
       | in-Ok+else-finish-station w ↦
           who_short v law c.requires.leased c.args.station c.requires.fit u a step w.in-Ok.standing w.in-Ok.is (omega (arith, w.if-finish-station.false, w.finish.ensures))
-      | in-default w ↦ who_none v law c.requires.leased c.args.station c.requires.fit u a step w.in-default.field-0 w.in-default.is
+      | in_default w ↦ who_none v law c.requires.leased c.args.station c.requires.fit u a step w.in_default.field-0 w.in_default.is
     ] in
     record { sound = c.last-below.ensures.sound; spaced = who_spaced v law c.requires.leased c.args.station c.requires.fit u a step; planned = rw c.refused.ensures none }

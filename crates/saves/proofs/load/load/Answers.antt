@@ -19,7 +19,7 @@ returns g c =
     let b = m.view c.args.book.now in
     let b' = m.view c.take_all.new.book in
     let l = c.take_all.result in
-    let fit = sym c.in-default.ensures in
+    let fit = sym c.in_default.ensures in
     record {
       sound = c.take_all.ensures.sound;
       loads = taken_load b c.args.bytes.now l b' fit c.take_all.ensures.taken;

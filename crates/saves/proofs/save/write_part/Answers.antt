@@ -8,8 +8,8 @@ list-requires g c =
     let b = g.B.Ledger.view c.args.book.now in
     record { sound = c.requires.sound; room = part_few c.args.part b (g.met.B.Ledger.standing c.args.book.now c.requires.sound) c.requires.unshut }
 
-pub slice-bounds-write-end : goal.slice-bounds-write-end
-slice-bounds-write-end g c =
+pub slice_bounds-write-end : goal.slice_bounds-write-end
+slice_bounds-write-end g c =
     let b = g.B.Ledger.view c.args.book.now in
     let few = part_few c.args.part b (g.met.B.Ledger.standing c.args.book.now c.requires.sound) c.requires.unshut in
     let short : c.len-count.result ≤ 256 = omega (arith, c.len-count.ensures) in

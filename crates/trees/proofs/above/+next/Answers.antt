@@ -27,8 +27,8 @@ next-right-requires t c =
     let o = opened c.args.nodes.now c.args.root c.requires c.if-root-eq-NONE.false in
     (falls_right c.args.nodes.now c.args.root t c.requires o c.decreases, o.right)
 
-pub overflow-add-result : goal.overflow-add-result
-overflow-add-result t c =
+pub overflow_add-result : goal.overflow_add-result
+overflow_add-result t c =
     let o = opened c.args.nodes.now c.args.root c.requires c.if-root-eq-NONE.false in
     omega (arith, c.next-right.ensures.few, low _ _ _ o.right)
 
@@ -46,8 +46,8 @@ next-left-requires t c =
     let o = opened c.args.nodes.now c.args.root c.requires c.if-root-eq-NONE.false in
     (falls_left c.args.nodes.now c.args.root t c.requires o c.decreases, o.left)
 
-pub overflow-add-result-2 : goal.overflow-add-result-2
-overflow-add-result-2 t c =
+pub overflow_add-result-2 : goal.overflow_add-result-2
+overflow_add-result-2 t c =
     let o = opened c.args.nodes.now c.args.root c.requires c.if-root-eq-NONE.false in
     omega (arith, c.next-left.ensures.few, low _ _ _ o.left)
 

@@ -18,8 +18,8 @@ last_entry-right-requires t c =
     let o = opened c.args.nodes.now c.args.root c.requires c.if-root-eq-NONE.false in
     (falls_right c.args.nodes.now c.args.root t c.requires o c.decreases, o.right)
 
-pub overflow-add-result : goal.overflow-add-result
-overflow-add-result t c =
+pub overflow_add-result : goal.overflow_add-result
+overflow_add-result t c =
     let o = opened c.args.nodes.now c.args.root c.requires c.if-root-eq-NONE.false in
     omega (arith, c.last_entry-right.ensures.few, low _ _ _ o.right)
 

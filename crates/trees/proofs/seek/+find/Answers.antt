@@ -31,8 +31,8 @@ find-under-requires-else-key-here-2 t c =
     let o = opened c.args.nodes.now c.args.root c.requires c.if-root-eq-NONE.false in
     (falls_right c.args.nodes.now c.args.root t c.requires o c.decreases, o.right)
 
-pub overflow-add-result : goal.overflow-add-result
-overflow-add-result t c =
+pub overflow_add-result : goal.overflow_add-result
+overflow_add-result t c =
     let o = opened c.args.nodes.now c.args.root c.requires c.if-root-eq-NONE.false in
     elim c.if-key-here-2.branch [
       | then-key-here-2 w ↦ omega (arith, w.find-under.ensures.few, low _ _ _ o.left, ap (λ x. x.visits) w.under_is)

@@ -47,11 +47,11 @@ bounds-out-middle t c =
     let lows = between c.args.first c.args.second (entries (left_at c.args.nodes.now c.args.root)) in
     omega (arith, ap length c.span-middle.ensures.places, c.span-middle.ensures.end, laid_long c.args.out.now c.args.start lows, long, c.requires.room)
 
-pub offset-bounds-out-middle : goal.offset-bounds-out-middle
-offset-bounds-out-middle t c = let h : c.span-middle.result < length c.span-middle.new.out = bounds-out-middle t c in search rules
+pub offset_bounds-out-middle : goal.offset_bounds-out-middle
+offset_bounds-out-middle t c = let h : c.span-middle.result < length c.span-middle.new.out = bounds-out-middle t c in search rules
 
-pub overflow-add-middle : goal.overflow-add-middle
-overflow-add-middle t c =
+pub overflow_add-middle : goal.overflow_add-middle
+overflow_add-middle t c =
     let o = opened c.args.nodes.now c.args.root c.requires.tree c.if-root-eq-NONE.false in
     let long = span_long c.args.nodes.now c.args.root o c.args.first c.args.second c.if-here-first.false c.if-second-here.false in
     let h : c.span-middle.result < length c.args.out.now = omega (arith, c.span-middle.ensures.end, long, c.requires.room) in

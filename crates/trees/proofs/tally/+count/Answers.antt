@@ -46,12 +46,12 @@ returns t c =
     let o = opened c.args.nodes.now c.args.root c.requires c.if-root-eq-NONE.false in
     omega (arith, c.count-low.ensures, c.count-high.ensures, span_long c.args.nodes.now c.args.root o c.args.first c.args.second c.if-here-first.false c.if-second-here.false)
 
-pub overflow-add-result : goal.overflow-add-result
-overflow-add-result t c =
+pub overflow_add-result : goal.overflow_add-result
+overflow_add-result t c =
     let o = opened c.args.nodes.now c.args.root c.requires c.if-root-eq-NONE.false in
     omega (arith, c.count-low.ensures, span_few c.args.first c.args.second c.args.nodes.now _ o.left)
 
-pub overflow-add-result-2 : goal.overflow-add-result-2
-overflow-add-result-2 t c =
+pub overflow_add-result-2 : goal.overflow_add-result-2
+overflow_add-result-2 t c =
     let o = opened c.args.nodes.now c.args.root c.requires c.if-root-eq-NONE.false in
     omega (arith, c.count-low.ensures, c.count-high.ensures, span_few c.args.first c.args.second c.args.nodes.now _ o.left, span_few c.args.first c.args.second c.args.nodes.now _ o.right)

@@ -19,11 +19,11 @@ bounds-row-middle t c =
     let o = opened c.args.nodes.now c.args.root c.requires.tree c.if-root-eq-NONE.false in
     omega (arith, ap length c.walk-middle.ensures.places, c.walk-middle.ensures.end, laid_long c.args.row.now c.args.start (places (left_at c.args.nodes.now c.args.root)), walk_long c.args.nodes.now c.args.root o, c.requires.room)
 
-pub offset-bounds-row-middle : goal.offset-bounds-row-middle
-offset-bounds-row-middle t c = let h : c.walk-middle.result < length c.walk-middle.new.row = bounds-row-middle t c in search rules
+pub offset_bounds-row-middle : goal.offset_bounds-row-middle
+offset_bounds-row-middle t c = let h : c.walk-middle.result < length c.walk-middle.new.row = bounds-row-middle t c in search rules
 
-pub overflow-add-middle : goal.overflow-add-middle
-overflow-add-middle t c =
+pub overflow_add-middle : goal.overflow_add-middle
+overflow_add-middle t c =
     let o = opened c.args.nodes.now c.args.root c.requires.tree c.if-root-eq-NONE.false in
     let h : c.walk-middle.result < length c.args.row.now = omega (arith, c.walk-middle.ensures.end, walk_long c.args.nodes.now c.args.root o, c.requires.room) in
     search rules

@@ -9,8 +9,8 @@ use Rattle.inside.proofs.Leave.{c as in_row}
 use Rattle.workings.proofs.leave.leave.Goals.{then-number-eq0, else-number-eq0, then-size-half_width-via-then-size-half_width, then-size-half_width-via-else-size-half_width+then-count-lt2}
 use Rattle.workings.proofs.leave.leave.Goals as goal
 
-pub overflow-sub-inside : goal.overflow-sub-inside
-overflow-sub-inside g c = some_counted _ _ _ _ c.args.inside.now g.met.K.Key.wide.0 c.requires.whole c.args.key c.requires.fits c.args.number c.requires.place c.requires.some
+pub overflow_sub-inside : goal.overflow_sub-inside
+overflow_sub-inside g c = some_counted _ _ _ _ c.args.inside.now g.met.K.Key.wide.0 c.requires.whole c.args.key c.requires.fits c.args.number c.requires.place c.requires.some
 
 pub size-requires : goal.size-requires
 size-requires g c = record {

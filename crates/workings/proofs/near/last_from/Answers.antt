@@ -38,8 +38,8 @@ last_entry-there-requires c =
     let h : 0 < c.args.number = omega (arith, c.if-number-eq0.false) in
     prev_stands i.table i.pool c.requires.forest c.args.number c.requires.held c.prev-before.result c.root-other.result h c.prev-before.ensures c.root-other.ensures
 
-pub overflow-add-result : goal.overflow-add-result
-overflow-add-result c =
+pub overflow_add-result : goal.overflow_add-result
+overflow_add-result c =
     let i = c.args.inside.now in
     let h : 0 < c.args.number = omega (arith, c.if-number-eq0.false) in
     let a = here_stands i.table i.pool c.requires.forest c.args.number c.requires.held c.root-root.result c.root-root.ensures in

@@ -36,8 +36,8 @@ first_entry-there-requires c =
     let i = c.args.inside.now in
     next_stands i.table i.pool c.requires.forest c.args.number c.requires.held c.next-behind.result c.root-other.result c.next-behind.ensures c.root-other.ensures
 
-pub overflow-add-result : goal.overflow-add-result
-overflow-add-result c =
+pub overflow_add-result : goal.overflow_add-result
+overflow_add-result c =
     let i = c.args.inside.now in
     let a = here_stands i.table i.pool c.requires.forest c.args.number c.requires.held c.root-root.result c.root-root.ensures in
     let b = next_stands i.table i.pool c.requires.forest c.args.number c.requires.held c.next-behind.result c.root-other.result c.next-behind.ensures c.root-other.ensures in

@@ -19,8 +19,8 @@ count-sum-requires c =
     let i = c.args.inside.now in
     here_stands i.table i.pool c.requires.forest c.loop.at c.loop.invariant.walk.held c.root-root.result c.root-root.ensures
 
-pub overflow-add-sum : goal.overflow-add-sum
-overflow-add-sum c =
+pub overflow_add-sum : goal.overflow_add-sum
+overflow_add-sum c =
     let i = c.args.inside.now in
     let few = counting_few i.table i.pool c.requires.forest c.args.first c.args.second c.args.number c.loop.at c.loop.sum c.loop.counter c.root-root.result c.count-sum.result c.loop.invariant c.root-root.ensures c.count-sum.ensures in
     omega (arith, few, c.loop-test.true)

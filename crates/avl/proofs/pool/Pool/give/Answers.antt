@@ -8,8 +8,8 @@ pub bounds-self-self : goal.bounds-self-self
 bounds-self-self c =
     omega (arith, shared_size (c.args.node ∷ c.requires.0) (free c.args.self.now) c.requires.1, length-take-le c.args.self.now.count c.args.self.now.spare (omega (arith, c.args.self.now.long, c.args.self.now.few)))
 
-pub invariant-of-self : goal.invariant-of-self
-invariant-of-self c =
+pub invariant_of-self : goal.invariant_of-self
+invariant_of-self c =
     let lt : c.args.self.now.count < 512 = bounds-self-self c in
     (c.args.self.now.whole, (length-set c.args.self.now.spare c.args.self.now.count _ ∙ c.args.self.now.long, (omega arith, tt)))
 

@@ -15,8 +15,8 @@ loop-i-preserved c =
           (get_or-set_same xs i i 0 (omega (arith, c.loop-i-test.true))),
     )
 
-pub invariant-of-result : goal.invariant-of-result
-invariant-of-result c = (refl, (c.loop-i.invariant.0, (omega arith, tt)))
+pub invariant_of-result : goal.invariant_of-result
+invariant_of-result c = (refl, (c.loop-i.invariant.0, (omega arith, tt)))
 
 pub returns : goal.returns
 returns c = λ m.

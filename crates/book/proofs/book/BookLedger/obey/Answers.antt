@@ -32,7 +32,7 @@ returns-in-AddName g c =
     let p = one_call b.names v' (Add c.in-AddName.key c.in-AddName.note) c.add.result (seven 56 b.names (omega arith) (omega arith) (g.met.N.OrderedIndex.lawful me.names c.requires.0)) c.add.ensures.step in
     record {
       sound = (c.add.ensures.sound, c.requires.1, c.requires.2, names_bounded b v' _ _ c.requires.3 p);
-      did = moved b (view_of v' b.leases b.events) c.args.command (AddName c.in-AddName.key c.in-AddName.note) c.add.result c.in-AddName.is (sym c.is_shut.ensures ∙ c.if-is_shut.false) (sym c.in-default.ensures) p (refl, refl);
+      did = moved b (view_of v' b.leases b.events) c.args.command (AddName c.in-AddName.key c.in-AddName.note) c.add.result c.in-AddName.is (sym c.is_shut.ensures ∙ c.if-is_shut.false) (sym c.in_default.ensures) p (refl, refl);
     }
 
 pub returns-in-RemoveName : goal.returns-in-RemoveName
@@ -43,7 +43,7 @@ returns-in-RemoveName g c =
     let p = one_call b.names v' (Remove c.in-RemoveName.key) c.remove.result (seven 56 b.names (omega arith) (omega arith) (g.met.N.OrderedIndex.lawful me.names c.requires.0)) c.remove.ensures.step in
     record {
       sound = (c.remove.ensures.sound, c.requires.1, c.requires.2, names_bounded b v' _ _ c.requires.3 p);
-      did = moved b (view_of v' b.leases b.events) c.args.command (RemoveName c.in-RemoveName.key) c.remove.result c.in-RemoveName.is (sym c.is_shut.ensures ∙ c.if-is_shut.false) (sym c.in-default.ensures) p (refl, refl);
+      did = moved b (view_of v' b.leases b.events) c.args.command (RemoveName c.in-RemoveName.key) c.remove.result c.in-RemoveName.is (sym c.is_shut.ensures ∙ c.if-is_shut.false) (sym c.in_default.ensures) p (refl, refl);
     }
 
 pub returns-in-FindName : goal.returns-in-FindName
@@ -54,7 +54,7 @@ returns-in-FindName g c =
     let p = one_call b.names v' (Find c.in-FindName.key) c.find.result (seven 56 b.names (omega arith) (omega arith) (g.met.N.OrderedIndex.lawful me.names c.requires.0)) c.find.ensures.step in
     record {
       sound = (c.find.ensures.sound, c.requires.1, c.requires.2, names_bounded b v' _ _ c.requires.3 p);
-      did = moved b (view_of v' b.leases b.events) c.args.command (FindName c.in-FindName.key) c.find.result c.in-FindName.is (sym c.is_shut.ensures ∙ c.if-is_shut.false) (sym c.in-default.ensures) p (refl, refl);
+      did = moved b (view_of v' b.leases b.events) c.args.command (FindName c.in-FindName.key) c.find.result c.in-FindName.is (sym c.is_shut.ensures ∙ c.if-is_shut.false) (sym c.in_default.ensures) p (refl, refl);
     }
 
 pub returns-in-NextName : goal.returns-in-NextName
@@ -65,7 +65,7 @@ returns-in-NextName g c =
     let p = one_call b.names v' (Next c.in-NextName.key) c.next.result (seven 56 b.names (omega arith) (omega arith) (g.met.N.OrderedIndex.lawful me.names c.requires.0)) c.next.ensures.step in
     record {
       sound = (c.next.ensures.sound, c.requires.1, c.requires.2, names_bounded b v' _ _ c.requires.3 p);
-      did = moved b (view_of v' b.leases b.events) c.args.command (NextName c.in-NextName.key) c.next.result c.in-NextName.is (sym c.is_shut.ensures ∙ c.if-is_shut.false) (sym c.in-default.ensures) p (refl, refl);
+      did = moved b (view_of v' b.leases b.events) c.args.command (NextName c.in-NextName.key) c.next.result c.in-NextName.is (sym c.is_shut.ensures ∙ c.if-is_shut.false) (sym c.in_default.ensures) p (refl, refl);
     }
 
 pub returns-in-AddEvent : goal.returns-in-AddEvent
@@ -76,7 +76,7 @@ returns-in-AddEvent g c =
     let p = one_call b.events v' (Add c.in-AddEvent.key c.in-AddEvent.note) c.add-in-AddEvent.result (seven 48 b.events (omega arith) (omega arith) (g.met.E.OrderedIndex.lawful me.events c.requires.2)) c.add-in-AddEvent.ensures.step in
     record {
       sound = (c.requires.0, c.requires.1, c.add-in-AddEvent.ensures.sound, events_bounded b v' _ _ c.requires.3 p);
-      did = moved b (view_of b.names b.leases v') c.args.command (AddEvent c.in-AddEvent.key c.in-AddEvent.note) c.add-in-AddEvent.result c.in-AddEvent.is (sym c.is_shut.ensures ∙ c.if-is_shut.false) (sym c.in-default.ensures) p (refl, refl);
+      did = moved b (view_of b.names b.leases v') c.args.command (AddEvent c.in-AddEvent.key c.in-AddEvent.note) c.add-in-AddEvent.result c.in-AddEvent.is (sym c.is_shut.ensures ∙ c.if-is_shut.false) (sym c.in_default.ensures) p (refl, refl);
     }
 
 pub returns-in-RemoveEvent : goal.returns-in-RemoveEvent
@@ -87,7 +87,7 @@ returns-in-RemoveEvent g c =
     let p = one_call b.events v' (Remove c.in-RemoveEvent.key) c.remove-in-RemoveEvent.result (seven 48 b.events (omega arith) (omega arith) (g.met.E.OrderedIndex.lawful me.events c.requires.2)) c.remove-in-RemoveEvent.ensures.step in
     record {
       sound = (c.requires.0, c.requires.1, c.remove-in-RemoveEvent.ensures.sound, events_bounded b v' _ _ c.requires.3 p);
-      did = moved b (view_of b.names b.leases v') c.args.command (RemoveEvent c.in-RemoveEvent.key) c.remove-in-RemoveEvent.result c.in-RemoveEvent.is (sym c.is_shut.ensures ∙ c.if-is_shut.false) (sym c.in-default.ensures) p (refl, refl);
+      did = moved b (view_of b.names b.leases v') c.args.command (RemoveEvent c.in-RemoveEvent.key) c.remove-in-RemoveEvent.result c.in-RemoveEvent.is (sym c.is_shut.ensures ∙ c.if-is_shut.false) (sym c.in_default.ensures) p (refl, refl);
     }
 
 pub returns-in-Lease : goal.returns-in-Lease
@@ -97,7 +97,7 @@ returns-in-Lease g c =
     let v' = g.L.OrderedIndex.view c.lease.new.leases in
     record {
       sound = (c.requires.0, c.lease.ensures.sound, c.requires.2, leases_bounded b v' _ _ c.requires.3 c.lease.ensures.planned c.lease.ensures.spaced);
-      did = moved b (view_of b.names v' b.events) c.args.command (Lease c.in-Lease.first c.in-Lease.second c.in-Lease.holder) c.lease.result c.in-Lease.is (sym c.is_shut.ensures ∙ c.if-is_shut.false) (sym c.in-default.ensures) c.lease.ensures.planned (refl, refl);
+      did = moved b (view_of b.names v' b.events) c.args.command (Lease c.in-Lease.first c.in-Lease.second c.in-Lease.holder) c.lease.result c.in-Lease.is (sym c.is_shut.ensures ∙ c.if-is_shut.false) (sym c.in_default.ensures) c.lease.ensures.planned (refl, refl);
     }
 
 pub returns-in-Release : goal.returns-in-Release
@@ -107,7 +107,7 @@ returns-in-Release g c =
     let v' = g.L.OrderedIndex.view c.release.new.leases in
     record {
       sound = (c.requires.0, c.release.ensures.sound, c.requires.2, leases_bounded b v' _ _ c.requires.3 c.release.ensures.planned c.release.ensures.spaced);
-      did = moved b (view_of b.names v' b.events) c.args.command (Release c.in-Release.start c.in-Release.holder) c.release.result c.in-Release.is (sym c.is_shut.ensures ∙ c.if-is_shut.false) (sym c.in-default.ensures) c.release.ensures.planned (refl, refl);
+      did = moved b (view_of b.names v' b.events) c.args.command (Release c.in-Release.start c.in-Release.holder) c.release.result c.in-Release.is (sym c.is_shut.ensures ∙ c.if-is_shut.false) (sym c.in_default.ensures) c.release.ensures.planned (refl, refl);
     }
 
 pub returns-in-Who : goal.returns-in-Who
@@ -117,7 +117,7 @@ returns-in-Who g c =
     let v' = g.L.OrderedIndex.view c.who.new.leases in
     record {
       sound = (c.requires.0, c.who.ensures.sound, c.requires.2, leases_bounded b v' _ _ c.requires.3 c.who.ensures.planned c.who.ensures.spaced);
-      did = moved b (view_of b.names v' b.events) c.args.command (Who c.in-Who.station) c.who.result c.in-Who.is (sym c.is_shut.ensures ∙ c.if-is_shut.false) (sym c.in-default.ensures) c.who.ensures.planned (refl, refl);
+      did = moved b (view_of b.names v' b.events) c.args.command (Who c.in-Who.station) c.who.result c.in-Who.is (sym c.is_shut.ensures ∙ c.if-is_shut.false) (sym c.in_default.ensures) c.who.ensures.planned (refl, refl);
     }
 
 pub returns-in-Due : goal.returns-in-Due
@@ -127,5 +127,5 @@ returns-in-Due g c =
     let v' = g.E.OrderedIndex.view c.due.new.events in
     record {
       sound = (c.requires.0, c.requires.1, c.due.ensures.sound, events_bounded b v' _ _ c.requires.3 c.due.ensures.planned);
-      did = moved b (view_of b.names b.leases v') c.args.command (Due c.in-Due.moment) c.due.result c.in-Due.is (sym c.is_shut.ensures ∙ c.if-is_shut.false) (sym c.in-default.ensures) c.due.ensures.planned (refl, refl);
+      did = moved b (view_of b.names b.leases v') c.args.command (Due c.in-Due.moment) c.due.result c.in-Due.is (sym c.is_shut.ensures ∙ c.if-is_shut.false) (sym c.in_default.ensures) c.due.ensures.planned (refl, refl);
     }

@@ -5,8 +5,8 @@ use Rattle.cuckoo.proofs.Standing.{fresh_placed}
 use Rattle.cuckoo.proofs.Packing.{fresh_packed}
 use Rattle.cuckoo.proofs.table.CuckooDictionary.new.Goals as goal
 
-pub invariant-of-result : goal.invariant-of-result
-invariant-of-result c = (fresh_placed 1792, (fresh_packed 1792, (fresh_apart 1792, (ap length (fresh_nodes 1792), (omega arith, (omega arith, tt))))))
+pub invariant_of-result : goal.invariant_of-result
+invariant_of-result c = (fresh_placed 1792, (fresh_packed 1792, (fresh_apart 1792, (ap length (fresh_nodes 1792), (omega arith, (omega arith, tt))))))
 
 pub returns : goal.returns
 returns c = record { pairs = fresh_pairs 1792; nodes = fresh_nodes 1792; tally = refl }

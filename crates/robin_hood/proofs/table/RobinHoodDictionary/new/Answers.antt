@@ -4,8 +4,8 @@ use Rattle.slots.proofs.Counts.{fresh_nodes}
 use Rattle.robin_hood.proofs.Rings.{fresh_spread}
 use Rattle.robin_hood.proofs.table.RobinHoodDictionary.new.Goals as goal
 
-pub invariant-of-result : goal.invariant-of-result
-invariant-of-result c = (fresh_spread 1024, (fresh_apart 1024, (ap length (fresh_nodes 1024), (omega arith, (omega arith, tt)))))
+pub invariant_of-result : goal.invariant_of-result
+invariant_of-result c = (fresh_spread 1024, (fresh_apart 1024, (ap length (fresh_nodes 1024), (omega arith, (omega arith, tt)))))
 
 pub returns : goal.returns
 returns c = record { pairs = fresh_pairs 1024; nodes = fresh_nodes 1024; tally = refl }

@@ -53,14 +53,14 @@ pub root-root-requires : goal.root-root-requires
 root-root-requires g c =
     let i = c.args.self.now.inside in
     let k = c.args.key in
-    let o = open_whole _ _ _ _ i k k c.requires c.in-default.ensures in
+    let o = open_whole _ _ _ _ i k k c.requires c.in_default.ensures in
     record { long = o.1.forest.table.long; within = small i.table o.1.forest.table c.locate-at.result.number c.locate-at.ensures.held }
 
 pub find-found-requires : goal.find-found-requires
 find-found-requires g c =
     let i = c.args.self.now.inside in
     let k = c.args.key in
-    let o = open_whole _ _ _ _ i k k c.requires c.in-default.ensures in
+    let o = open_whole _ _ _ _ i k k c.requires c.in_default.ensures in
     subst (Standing i.pool.nodes) (sym c.root-root.ensures) (all_among (λ n. Standing i.pool.nodes (root_of i.table n)) (order_of i.table) c.locate-at.result.number o.1.forest.trees c.locate-at.ensures.held)
 
 pub enter-change-requires : goal.enter-change-requires
@@ -69,20 +69,20 @@ enter-change-requires g c =
     let k = c.args.key in
     let w = g.K.Key.width in
     let e = c.locate-at.new.d in
-    let o = open_whole _ _ _ _ i k k c.requires c.in-default.ensures in
+    let o = open_whole _ _ _ _ i k k c.requires c.in_default.ensures in
     let wh = o.1 in
     let none : is_some (foremost (at k (entries_at i.pool.nodes c.root-root.result))) ≡ false = ap is_some (sym c.find-found.ensures.entry) ∙ (sym c.is_some.ensures ∙ c.if-is_some.false) in
     record {
       whole = record { trie = c.locate-at.ensures.sound; forest = wh.forest; buckets = wh.buckets; notes = wh.notes; counted = wh.counted; small = wh.small; fits = subst (λ x. needed w i.limit ≤ x) (sym c.locate-at.ensures.room) wh.fits };
-      fits = one_fits i.shut w k c.in-default.ensures;
+      fits = one_fits i.shut w k c.in_default.ensures;
       place = c.locate-at.ensures.number;
       held = c.locate-at.ensures.held;
       new = subst (λ r. at k (entries_at i.pool.nodes r) ≡ []) c.root-root.ensures (none_found (at k (entries_at i.pool.nodes c.root-root.result)) none);
       free = c.if-self.false;
     }
 
-pub overflow-add-result : goal.overflow-add-result
-overflow-add-result g c =
+pub overflow_add-result : goal.overflow_add-result
+overflow_add-result g c =
     let w = g.K.Key.width in
     let wide = g.met.K.Key.wide in
     omega (arith, c.locate-at.ensures.few, most_within w wide.0 wide.1, c.enter-change.ensures.few, wide.1)
@@ -99,7 +99,7 @@ returns-then-is_some g c =
     let room = g.D.Dictionary.room d in
     let tally = g.D.Dictionary.frames d in
     let new : Entry = record { key = k; note = c.args.note } in
-    let o = open_whole w f room tally i k k c.requires c.in-default.ensures in
+    let o = open_whole w f room tally i k k c.requires c.in_default.ensures in
     let m = holder (rep_of i.table) (order_of i.table) k in
     let root : c.root-root.result ≡ root_of i.table m = c.root-root.ensures ∙ ap (root_of i.table) c.locate-at.ensures.number in
     let xs = at k (items_of i.table i.pool m) in
@@ -107,7 +107,7 @@ returns-then-is_some g c =
     let seen_is : c.find-found.result.visits ≡ seen k (tree_of i.table i.pool m) = c.find-found.ensures.visits ∙ ap (λ r. seen k (tree_at i.pool.nodes r)) root in
     let fr = c.locate-at.ensures.frames in
     let big = g.met.K.Key.wide.0 in
-    let fits = one_fits i.shut w k c.in-default.ensures in
+    let fits = one_fits i.shut w k c.in_default.ensures in
     let n = g.D.Dictionary.frames e in
     let t = refused_step w f room tally i big o.1 new fits Held n (some_held i.limit (total (row_of i.table i.pool)) xs (sym found ∙ c.if-is_some.true)) (g.met.D.Dictionary.counts e) (c.locate-at.ensures.tally ∙ ap (raised tally) fr) in
     let q : c.refused-then-is_some.result ≡ no_of Held (searching w (reps_of i.table) k) (seen k (tree_of i.table i.pool m)) =
@@ -132,7 +132,7 @@ returns-then-self g c =
     let room = g.D.Dictionary.room d in
     let tally = g.D.Dictionary.frames d in
     let new : Entry = record { key = k; note = c.args.note } in
-    let o = open_whole w f room tally i k k c.requires c.in-default.ensures in
+    let o = open_whole w f room tally i k k c.requires c.in_default.ensures in
     let m = holder (rep_of i.table) (order_of i.table) k in
     let root : c.root-root.result ≡ root_of i.table m = c.root-root.ensures ∙ ap (root_of i.table) c.locate-at.ensures.number in
     let xs = at k (items_of i.table i.pool m) in
@@ -140,7 +140,7 @@ returns-then-self g c =
     let seen_is : c.find-found.result.visits ≡ seen k (tree_of i.table i.pool m) = c.find-found.ensures.visits ∙ ap (λ r. seen k (tree_at i.pool.nodes r)) root in
     let fr = c.locate-at.ensures.frames in
     let big = g.met.K.Key.wide.0 in
-    let fits = one_fits i.shut w k c.in-default.ensures in
+    let fits = one_fits i.shut w k c.in_default.ensures in
     let n = g.D.Dictionary.frames e in
     let t = refused_step w f room tally i big o.1 new fits Full n (none_full i.limit (total (row_of i.table i.pool)) xs (none_found xs (sym found ∙ c.if-is_some.false)) (omega (arith, o.1.counted, c.if-self.true))) (g.met.D.Dictionary.counts e) (c.locate-at.ensures.tally ∙ ap (raised tally) fr) in
     let q : c.refused-then-self.result ≡ no_of Full (searching w (reps_of i.table) k) (seen k (tree_of i.table i.pool m)) =
@@ -165,7 +165,7 @@ returns g c =
     let room = g.D.Dictionary.room d in
     let tally = g.D.Dictionary.frames d in
     let new : Entry = record { key = k; note = c.args.note } in
-    let o = open_whole w f room tally i k k c.requires c.in-default.ensures in
+    let o = open_whole w f room tally i k k c.requires c.in_default.ensures in
     let m = holder (rep_of i.table) (order_of i.table) k in
     let root : c.root-root.result ≡ root_of i.table m = c.root-root.ensures ∙ ap (root_of i.table) c.locate-at.ensures.number in
     let xs = at k (items_of i.table i.pool m) in
@@ -173,7 +173,7 @@ returns g c =
     let seen_is : c.find-found.result.visits ≡ seen k (tree_of i.table i.pool m) = c.find-found.ensures.visits ∙ ap (λ r. seen k (tree_at i.pool.nodes r)) root in
     let fr = c.locate-at.ensures.frames in
     let big = g.met.K.Key.wide.0 in
-    let fits = one_fits i.shut w k c.in-default.ensures in
+    let fits = one_fits i.shut w k c.in_default.ensures in
     let none = none_found xs (sym found ∙ c.if-is_some.false) in
     let j = c.enter-change.new.inside in
     let z = c.enter-change.new.d in

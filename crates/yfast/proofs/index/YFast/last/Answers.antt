@@ -45,7 +45,7 @@ pub last_from-found-requires : goal.last_from-found-requires
 last_from-found-requires g c =
     let i = c.args.self.now.inside in
     let k = c.args.key in
-    let o = open_whole _ _ _ _ i k k c.requires c.in-default.ensures in
+    let o = open_whole _ _ _ _ i k k c.requires c.in_default.ensures in
     record { forest = o.1.forest; held = c.locate-at.ensures.held }
 
 pub returns : goal.returns
@@ -60,7 +60,7 @@ returns g c =
     let room = g.D.Dictionary.room d in
     let tally = g.D.Dictionary.frames d in
     let n = g.D.Dictionary.frames e in
-    let o = open_whole w f room tally i k k c.requires c.in-default.ensures in
+    let o = open_whole w f room tally i k k c.requires c.in_default.ensures in
     let m = c.locate-at.result.number in
     let items = items_of i.table i.pool in
     let tree = tree_of i.table i.pool in
@@ -73,7 +73,7 @@ returns g c =
     ∙ (ap (λ x. reply_of x Nothing c.locate-at.result.frames c.last_from-found.result.visits) found.entry
     ∙ (ap (λ x. reply_of (hindmost xs) Nothing x c.last_from-found.result.visits) fr
     ∙ ap (λ x. reply_of (hindmost xs) Nothing (searching w (reps_of i.table) k) x) found.visits)) in
-    let t = last_step w f room tally i g.met.K.Key.wide.0 o.1 k [] n m cut (one_fits i.shut w k c.in-default.ensures) (g.met.D.Dictionary.counts e) (c.locate-at.ensures.tally ∙ ap (raised tally) fr) in
+    let t = last_step w f room tally i g.met.K.Key.wide.0 o.1 k [] n m cut (one_fits i.shut w k c.in_default.ensures) (g.met.D.Dictionary.counts e) (c.locate-at.ensures.tally ∙ ap (raised tally) fr) in
     record {
       sound = sound_kept w f (g.D.Dictionary.pairs e) room (g.D.Dictionary.room e) tally n i c.locate-at.ensures.pairs c.locate-at.ensures.room c.requires;
       does = open_does w f (g.D.Dictionary.pairs e) tally n i (Last k) [] _ (answer_with c.reply.result) o.0 c.locate-at.ensures.pairs (ap answer_with q) t;

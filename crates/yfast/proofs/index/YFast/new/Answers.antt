@@ -15,7 +15,7 @@ returns-in-Some g c = record {
 pub make-requires : goal.make-requires
 make-requires g c =
     let d = c.args.dictionary in
-    let f = fitting g.K.Key.width c.args.limit _ _ _ c.in-default.ensures in
+    let f = fitting g.K.Key.width c.args.limit _ _ _ c.in_default.ensures in
     record { empty = pairless (g.D.Dictionary.pairs d) (g.D.Dictionary.nodes d) (g.met.D.Dictionary.held d) f.empty; room = f.one }
 
 pub returns : goal.returns
@@ -26,10 +26,10 @@ returns g c =
     let d = c.make.new.d in
     let e = c.make.ensures in
     let given = c.args.dictionary in
-    let f = fitting w c.args.limit (g.D.Dictionary.room given) (length (g.D.Dictionary.nodes given)) (g.D.Dictionary.frames given) c.in-default.ensures in
+    let f = fitting w c.args.limit (g.D.Dictionary.room given) (length (g.D.Dictionary.nodes given)) (g.D.Dictionary.frames given) c.in_default.ensures in
     let wide = g.met.K.Key.wide in
     record {
-      shut = ap is_some c.in-default.ensures;
+      shut = ap is_some c.in_default.ensures;
       sound = fresh_whole t p e.fresh c.new-2.ensures w c.args.limit (g.D.Dictionary.room d) (g.D.Dictionary.frames d) (g.D.Dictionary.pairs d) e.sound f.small (omega (arith, f.enough, e.room));
       bare = fresh_bare t p e.fresh c.args.limit false;
       kept = λ h. absurd (false≢true h);

@@ -52,13 +52,13 @@ returns-then-number-places g c =
     let room = g.D.Dictionary.room d in
     let tally = g.D.Dictionary.frames d in
     let n = g.D.Dictionary.frames e in
-    let o = open_whole w f room tally i a b c.requires c.in-default.ensures in
+    let o = open_whole w f room tally i a b c.requires c.in_default.ensures in
     let m = c.locate-at.result.number in
     let fr = c.locate-at.result.frames in
     let cut = subst (InRow (rep_of i.table) (order_of i.table) a) (sym c.locate-at.ensures.number) (held_in w f i.table o.1.trie a) in
     let ys = between a b (onward i.table i.pool m) in
     let many : length ps < length ys = omega (arith, c.count_span-number.ensures, c.if-number-places.true) in
-    let t = range_step w f room tally i g.met.K.Key.wide.0 o.1 a b ps n m cut (answer_with ps (no_of Room fr 0)) (both_fit i.shut w a b c.in-default.ensures)
+    let t = range_step w f room tally i g.met.K.Key.wide.0 o.1 a b ps n m cut (answer_with ps (no_of Room fr 0)) (both_fit i.shut w a b c.in_default.ensures)
     (room_told ys ps fr many) c.locate-at.ensures.frames refl refl (g.met.D.Dictionary.counts e) c.locate-at.ensures.tally in
     record {
       sound = sound_kept w f (g.D.Dictionary.pairs e) room (g.D.Dictionary.room e) tally n i c.locate-at.ensures.pairs c.locate-at.ensures.room c.requires;
@@ -67,11 +67,11 @@ returns-then-number-places g c =
       room = c.locate-at.ensures.room;
     }
 
-pub overflow-cast-result : goal.overflow-cast-result
-overflow-cast-result g c =
+pub overflow_cast-result : goal.overflow_cast-result
+overflow_cast-result g c =
     let i = c.args.self.now.inside in
     let d = c.args.self.now.dictionary in
-    let o = open_whole g.K.Key.width (g.D.Dictionary.pairs d) (g.D.Dictionary.room d) (g.D.Dictionary.frames d) i c.args.first c.args.second c.requires c.in-default.ensures in
+    let o = open_whole g.K.Key.width (g.D.Dictionary.pairs d) (g.D.Dictionary.room d) (g.D.Dictionary.frames d) i c.args.first c.args.second c.requires c.in_default.ensures in
     let few = span_bound g.K.Key.width (g.D.Dictionary.pairs d) (g.D.Dictionary.room d) (g.D.Dictionary.frames d) i o.1 c.args.first c.args.second c.locate-at.result.number in
     omega (arith, few, c.count_span-number.ensures)
 
@@ -90,14 +90,14 @@ returns g c =
     let room = g.D.Dictionary.room d in
     let tally = g.D.Dictionary.frames d in
     let n = g.D.Dictionary.frames e in
-    let o = open_whole w f room tally i a b c.requires c.in-default.ensures in
+    let o = open_whole w f room tally i a b c.requires c.in_default.ensures in
     let m = c.locate-at.result.number in
     let fr = c.locate-at.result.frames in
     let cut = subst (InRow (rep_of i.table) (order_of i.table) a) (sym c.locate-at.ensures.number) (held_in w f i.table o.1.trie a) in
     let ys = between a b (onward i.table i.pool m) in
     let fits : length ys ≤ length ps = omega (arith, c.count_span-number.ensures, c.if-number-places.false) in
     let x = answer_with qs (wrote c.count_span-number.result fr) in
-    let t = range_step w f room tally i g.met.K.Key.wide.0 o.1 a b ps n m cut x (both_fit i.shut w a b c.in-default.ensures)
+    let t = range_step w f room tally i g.met.K.Key.wide.0 o.1 a b ps n m cut x (both_fit i.shut w a b c.in_default.ensures)
     (written_told ys ps qs c.count_span-number.result fr c.count_span-number.ensures c.write_span.ensures fits) c.locate-at.ensures.frames refl refl (g.met.D.Dictionary.counts e) c.locate-at.ensures.tally in
     record {
       sound = sound_kept w f (g.D.Dictionary.pairs e) room (g.D.Dictionary.room e) tally n i c.locate-at.ensures.pairs c.locate-at.ensures.room c.requires;

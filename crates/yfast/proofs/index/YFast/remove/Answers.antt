@@ -52,14 +52,14 @@ pub root-root-requires : goal.root-root-requires
 root-root-requires g c =
     let i = c.args.self.now.inside in
     let k = c.args.key in
-    let o = open_whole _ _ _ _ i k k c.requires c.in-default.ensures in
+    let o = open_whole _ _ _ _ i k k c.requires c.in_default.ensures in
     record { long = o.1.forest.table.long; within = small i.table o.1.forest.table c.locate-at.result.number c.locate-at.ensures.held }
 
 pub find-found-requires : goal.find-found-requires
 find-found-requires g c =
     let i = c.args.self.now.inside in
     let k = c.args.key in
-    let o = open_whole _ _ _ _ i k k c.requires c.in-default.ensures in
+    let o = open_whole _ _ _ _ i k k c.requires c.in_default.ensures in
     subst (Standing i.pool.nodes) (sym c.root-root.ensures) (all_among (λ n. Standing i.pool.nodes (root_of i.table n)) (order_of i.table) c.locate-at.result.number o.1.forest.trees c.locate-at.ensures.held)
 
 pub leave-change-requires : goal.leave-change-requires
@@ -72,7 +72,7 @@ leave-change-requires g c =
     let f = g.D.Dictionary.pairs d in
     let room = g.D.Dictionary.room d in
     let tally = g.D.Dictionary.frames d in
-    let o = open_whole w f room tally i k k c.requires c.in-default.ensures in
+    let o = open_whole w f room tally i k k c.requires c.in_default.ensures in
     let m = holder (rep_of i.table) (order_of i.table) k in
     let root : c.root-root.result ≡ root_of i.table m = c.root-root.ensures ∙ ap (root_of i.table) c.locate-at.ensures.number in
     let xs = at k (items_of i.table i.pool m) in
@@ -80,7 +80,7 @@ leave-change-requires g c =
     let seen_is : c.find-found.result.visits ≡ seen k (tree_of i.table i.pool m) = c.find-found.ensures.visits ∙ ap (λ r. seen k (tree_at i.pool.nodes r)) root in
     let fr = c.locate-at.ensures.frames in
     let big = g.met.K.Key.wide.0 in
-    let fits = one_fits i.shut w k c.in-default.ensures in
+    let fits = one_fits i.shut w k c.in_default.ensures in
     let wh = o.1 in
     let first = found_first xs c.in-Some-entry.entry (sym found ∙ c.in-Some-entry.is) in
     record {
@@ -91,8 +91,8 @@ leave-change-requires g c =
       some = subst (λ y. filled (at k (items_of i.table i.pool y)) ≡ true) (sym c.locate-at.ensures.number) (ap filled first.1);
     }
 
-pub overflow-add-result : goal.overflow-add-result
-overflow-add-result g c =
+pub overflow_add-result : goal.overflow_add-result
+overflow_add-result g c =
     let k = c.args.key in
     let i = c.args.self.now.inside in
     let d = c.args.self.now.dictionary in
@@ -101,7 +101,7 @@ overflow-add-result g c =
     let f = g.D.Dictionary.pairs d in
     let room = g.D.Dictionary.room d in
     let tally = g.D.Dictionary.frames d in
-    let o = open_whole w f room tally i k k c.requires c.in-default.ensures in
+    let o = open_whole w f room tally i k k c.requires c.in_default.ensures in
     let m = holder (rep_of i.table) (order_of i.table) k in
     let root : c.root-root.result ≡ root_of i.table m = c.root-root.ensures ∙ ap (root_of i.table) c.locate-at.ensures.number in
     let xs = at k (items_of i.table i.pool m) in
@@ -109,15 +109,15 @@ overflow-add-result g c =
     let seen_is : c.find-found.result.visits ≡ seen k (tree_of i.table i.pool m) = c.find-found.ensures.visits ∙ ap (λ r. seen k (tree_at i.pool.nodes r)) root in
     let fr = c.locate-at.ensures.frames in
     let big = g.met.K.Key.wide.0 in
-    let fits = one_fits i.shut w k c.in-default.ensures in
+    let fits = one_fits i.shut w k c.in_default.ensures in
     let wide = g.met.K.Key.wide in
     let first = found_first xs c.in-Some-entry.entry (sym found ∙ c.in-Some-entry.is) in
     let few = remove_few w f room tally i big o.1 k fits c.in-Some-entry.entry first.0 first.1 in
     omega (arith, few, fr, c.leave-change.ensures.left.frames, most_within w wide.0 wide.1, wide.1)
 
-pub returns-in-default-entry : goal.returns-in-default-entry
+pub returns-in_default-entry : goal.returns-in_default-entry
 unfolding answer_with
-returns-in-default-entry g c =
+returns-in_default-entry g c =
     let k = c.args.key in
     let i = c.args.self.now.inside in
     let d = c.args.self.now.dictionary in
@@ -126,7 +126,7 @@ returns-in-default-entry g c =
     let f = g.D.Dictionary.pairs d in
     let room = g.D.Dictionary.room d in
     let tally = g.D.Dictionary.frames d in
-    let o = open_whole w f room tally i k k c.requires c.in-default.ensures in
+    let o = open_whole w f room tally i k k c.requires c.in_default.ensures in
     let m = holder (rep_of i.table) (order_of i.table) k in
     let root : c.root-root.result ≡ root_of i.table m = c.root-root.ensures ∙ ap (root_of i.table) c.locate-at.ensures.number in
     let xs = at k (items_of i.table i.pool m) in
@@ -134,14 +134,14 @@ returns-in-default-entry g c =
     let seen_is : c.find-found.result.visits ≡ seen k (tree_of i.table i.pool m) = c.find-found.ensures.visits ∙ ap (λ r. seen k (tree_at i.pool.nodes r)) root in
     let fr = c.locate-at.ensures.frames in
     let big = g.met.K.Key.wide.0 in
-    let fits = one_fits i.shut w k c.in-default.ensures in
+    let fits = one_fits i.shut w k c.in_default.ensures in
     let n = g.D.Dictionary.frames e in
-    let t = absent_step w f room tally i big o.1 k fits n (not_found xs (sym found ∙ c.in-default-entry.is)) (g.met.D.Dictionary.counts e) (c.locate-at.ensures.tally ∙ ap (raised tally) fr) in
-    let q : c.refused-in-default-entry.result ≡ no_of Absent (searching w (reps_of i.table) k) (seen k (tree_of i.table i.pool m)) =
-    c.refused-in-default-entry.ensures ∙ (ap (λ x. no_of Absent x c.find-found.result.visits) fr ∙ ap (λ x. no_of Absent (searching w (reps_of i.table) k) x) seen_is) in
+    let t = absent_step w f room tally i big o.1 k fits n (not_found xs (sym found ∙ c.in_default-entry.is)) (g.met.D.Dictionary.counts e) (c.locate-at.ensures.tally ∙ ap (raised tally) fr) in
+    let q : c.refused-in_default-entry.result ≡ no_of Absent (searching w (reps_of i.table) k) (seen k (tree_of i.table i.pool m)) =
+    c.refused-in_default-entry.ensures ∙ (ap (λ x. no_of Absent x c.find-found.result.visits) fr ∙ ap (λ x. no_of Absent (searching w (reps_of i.table) k) x) seen_is) in
     record {
       sound = sound_kept w f (g.D.Dictionary.pairs e) room (g.D.Dictionary.room e) tally n i c.locate-at.ensures.pairs c.locate-at.ensures.room c.requires;
-      does = open_does w f (g.D.Dictionary.pairs e) tally n i (Remove k) [] _ (answer_with c.refused-in-default-entry.result) o.0 c.locate-at.ensures.pairs (ap answer_with q) t;
+      does = open_does w f (g.D.Dictionary.pairs e) tally n i (Remove k) [] _ (answer_with c.refused-in_default-entry.result) o.0 c.locate-at.ensures.pairs (ap answer_with q) t;
       limit = refl;
       shut = refl;
       room = c.locate-at.ensures.room;
@@ -157,7 +157,7 @@ returns g c =
     let f = g.D.Dictionary.pairs d in
     let room = g.D.Dictionary.room d in
     let tally = g.D.Dictionary.frames d in
-    let o = open_whole w f room tally i k k c.requires c.in-default.ensures in
+    let o = open_whole w f room tally i k k c.requires c.in_default.ensures in
     let m = holder (rep_of i.table) (order_of i.table) k in
     let root : c.root-root.result ≡ root_of i.table m = c.root-root.ensures ∙ ap (root_of i.table) c.locate-at.ensures.number in
     let xs = at k (items_of i.table i.pool m) in
@@ -165,7 +165,7 @@ returns g c =
     let seen_is : c.find-found.result.visits ≡ seen k (tree_of i.table i.pool m) = c.find-found.ensures.visits ∙ ap (λ r. seen k (tree_at i.pool.nodes r)) root in
     let fr = c.locate-at.ensures.frames in
     let big = g.met.K.Key.wide.0 in
-    let fits = one_fits i.shut w k c.in-default.ensures in
+    let fits = one_fits i.shut w k c.in_default.ensures in
     let old = c.in-Some-entry.entry in
     let first = found_first xs old (sym found ∙ c.in-Some-entry.is) in
     let j = c.leave-change.new.inside in
