@@ -35,8 +35,8 @@ pub overflow_add-result : goal.overflow_add-result
 overflow_add-result t c =
     let o = opened c.args.nodes.now c.args.root c.requires c.if-root-eq-NONE.false in
     elim c.if-key-here-2.branch [
-      | then-key-here-2 w ↦ omega (arith, w.find-under.ensures.few, low _ _ _ o.left, ap (λ x. x.visits) w.under_is)
-      | else-key-here-2 w ↦ omega (arith, w.find-under-else-key-here-2.ensures.few, low _ _ _ o.right, ap (λ x. x.visits) w.under_is)
+      | then-key-here-2 w ↦ omega (arith, w.find-under.ensures.few, low _ _ _ o.left, ap (λ x. x.visits) w.under-is)
+      | else-key-here-2 w ↦ omega (arith, w.find-under-else-key-here-2.ensures.few, low _ _ _ o.right, ap (λ x. x.visits) w.under-is)
     ]
 
 pub returns : goal.returns
@@ -47,10 +47,10 @@ returns t c =
     let o = opened ns root c.requires c.if-root-eq-NONE.false in
     elim c.if-key-here-2.branch [
       | then-key-here-2 w ↦
-          let s : Saw c.if-key-here-2.under (foremost (at key _)) (seen key (left_at ns root)) (left_at ns root) = subst (λ x. Saw x _ _ _) (sym w.under_is) w.find-under.ensures in
+          let s : Saw c.if-key-here-2.under (foremost (at key _)) (seen key (left_at ns root)) (left_at ns root) = subst (λ x. Saw x _ _ _) (sym w.under-is) w.find-under.ensures in
           record { entry = s.entry ∙ sym (ap foremost (at_low ns root o key w.if-key-here-2.true)); visits = omega (arith, s.visits, path_low ns root o key w.if-key-here-2.true); few = omega (arith, s.few, tall_open ns root o) }
       | else-key-here-2 w ↦
-          let s : Saw c.if-key-here-2.under (foremost (at key _)) (seen key (right_at ns root)) (right_at ns root) = subst (λ x. Saw x _ _ _) (sym w.under_is) w.find-under-else-key-here-2.ensures in
+          let s : Saw c.if-key-here-2.under (foremost (at key _)) (seen key (right_at ns root)) (right_at ns root) = subst (λ x. Saw x _ _ _) (sym w.under-is) w.find-under-else-key-here-2.ensures in
           let gt : (node_at ns root).key < key = omega (arith, w.if-key-here-2.false, c.if-key-here.false) in
           record { entry = s.entry ∙ sym (ap foremost (at_high ns root o key gt)); visits = omega (arith, s.visits, path_high ns root o key gt); few = omega (arith, s.few, tall_open ns root o) }
     ]
