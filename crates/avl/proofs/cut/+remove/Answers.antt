@@ -3,8 +3,8 @@ use Rattle.trees.proofs.Pools.{opened, falls_left, falls_right, low}
 use Rattle.avl.proofs.Removals.{held_root, held_left, held_right, left_loose, left_near, cut_left_rising, cut_left, cut_right_loose, cut_right_near, cut_right, cut_here}
 use Rattle.avl.proofs.cut.+remove.Goals as goal
 
-pub slice-copy-out·here : goal.slice-copy-out·here
-slice-copy-out·here t c = (opened c.args.nodes.now c.args.root c.requires.stands (held_root c.args.nodes.now c.args.root c.args.key c.requires)).inside
+pub slice_copy_out-here : goal.slice_copy_out-here
+slice_copy_out-here t c = (opened c.args.nodes.now c.args.root c.requires.stands (held_root c.args.nodes.now c.args.root c.args.key c.requires)).inside
 
 pub remove-left-requires : goal.remove-left-requires
 remove-left-requires t c =

@@ -9,8 +9,8 @@ bounds-nodes-fresh t c = c.requires.inside
 pub returns-then-root-eq-NONE : goal.returns-then-root-eq-NONE
 returns-then-root-eq-NONE t c = grew_leaf c.args.nodes.now c.args.root c.args.fresh c.args.new c.requires c.if-root-eq-NONE.true
 
-pub slice-copy-out·here : goal.slice-copy-out·here
-slice-copy-out·here t c = (opened c.args.nodes.now c.args.root c.requires.stands c.if-root-eq-NONE.false).inside
+pub slice_copy_out-here : goal.slice_copy_out-here
+slice_copy_out-here t c = (opened c.args.nodes.now c.args.root c.requires.stands c.if-root-eq-NONE.false).inside
 
 pub insert-left-requires : goal.insert-left-requires
 insert-left-requires t c =

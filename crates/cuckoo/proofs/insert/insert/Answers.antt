@@ -14,7 +14,7 @@ returns-then-resident-eq0 c =
     let s = c.loop-push.invariant.0 in
     let h = at_within s in
     let empty = c.if-resident-eq0.true in
-    let k : 32 - c.loop-push.-push ≡ suc (31 - c.loop-push.-push) = omega arith in
+    let k : 32 - c.loop-push._push ≡ suc (31 - c.loop-push._push) = omega arith in
     record {
       settles = rw (← c.first-at.ensures.value) (c.loop-push.invariant.1 _ _ (rw k (rests empty)));
       placed = put_placed s;
@@ -26,7 +26,7 @@ returns-then-resident-eq0 c =
 
 pub loop-push-preserved : goal.loop-push-preserved
 loop-push-preserved c =
-    let k : 32 - c.loop-push.-push ≡ suc (32 - (c.loop-push.-push + 1)) = omega arith in
+    let k : 32 - c.loop-push._push ≡ suc (32 - (c.loop-push._push + 1)) = omega arith in
     let taken : 0 < node_at c.loop-push.slots c.loop-push.at = omega arith in
     (pushed c.loop-push.invariant.0 (omega arith) c.other-at.result c.other-at.ensures.below c.other-at.ensures.home, λ ys m h. c.loop-push.invariant.1 ys m (rw k (pushes {at = c.loop-push.at} taken (rw c.other-at.ensures.value at h))))
 
@@ -42,7 +42,7 @@ returns c =
     let room = c.requires.room in
     let h = spill_within s room in
     let empty = spill_empty s room in
-    let k : 32 - c.loop-push.-push ≡ 0 = omega arith in
+    let k : 32 - c.loop-push._push ≡ 0 = omega arith in
     record {
       settles = rw (← c.first-at.ensures.value) (c.loop-push.invariant.1 _ _ (rw k spills));
       placed = spill_placed s room;

@@ -8,4 +8,4 @@ use Rattle.cuckoo.proofs.insert.insert.Given as goal
 abbrev pub invariant-loop-push : goal.invariant-loop-push
 invariant-loop-push l =
     Pushing l.initial.slots l.initial.carried l.spilled l.slots l.carried l.at
-    × ((ys : List Slot) (m : ℕ) → Settles (32 - l.-push) l.slots l.spilled l.at l.carried ys m → Settles 32 l.initial.slots l.spilled l.initial.at l.initial.carried ys m)
+    × ((ys : List Slot) (m : ℕ) → Settles (32 - l._push) l.slots l.spilled l.at l.carried ys m → Settles 32 l.initial.slots l.spilled l.initial.at l.initial.carried ys m)

@@ -11,7 +11,7 @@ bounds-self-self c =
 pub invariant_of-self : goal.invariant_of-self
 invariant_of-self c =
     let lt : c.args.self.now.count < 512 = bounds-self-self c in
-    (c.args.self.now.whole, (length-set c.args.self.now.spare c.args.self.now.count _ ∙ c.args.self.now.long, (omega arith, tt)))
+    record { whole = c.args.self.now.whole; long = length-set c.args.self.now.spare c.args.self.now.count _ ∙ c.args.self.now.long; few = omega arith }
 
 pub returns : goal.returns
 returns c =

@@ -16,7 +16,7 @@ loop-i-preserved c =
     )
 
 pub invariant_of-result : goal.invariant_of-result
-invariant_of-result c = (refl, (c.loop-i.invariant.0, (omega arith, tt)))
+invariant_of-result c = record { whole = refl; long = c.loop-i.invariant.0; few = omega arith }
 
 pub returns : goal.returns
 returns c = λ m.

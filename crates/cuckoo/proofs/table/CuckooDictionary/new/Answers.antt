@@ -6,7 +6,7 @@ use Rattle.cuckoo.proofs.Packing.{fresh_packed}
 use Rattle.cuckoo.proofs.table.CuckooDictionary.new.Goals as goal
 
 pub invariant_of-result : goal.invariant_of-result
-invariant_of-result c = (fresh_placed 1792, (fresh_packed 1792, (fresh_apart 1792, (ap length (fresh_nodes 1792), (omega arith, (omega arith, tt))))))
+invariant_of-result c = record { placed = fresh_placed 1792; packed = fresh_packed 1792; apart = fresh_apart 1792; counted = ap length (fresh_nodes 1792); few = omega arith; counts = omega arith }
 
 pub returns : goal.returns
 returns c = record { pairs = fresh_pairs 1792; nodes = fresh_nodes 1792; tally = refl }

@@ -5,7 +5,7 @@ use Rattle.robin_hood.proofs.Rings.{fresh_spread}
 use Rattle.robin_hood.proofs.table.RobinHoodDictionary.new.Goals as goal
 
 pub invariant_of-result : goal.invariant_of-result
-invariant_of-result c = (fresh_spread 1024, (fresh_apart 1024, (ap length (fresh_nodes 1024), (omega arith, (omega arith, tt)))))
+invariant_of-result c = record { spread = fresh_spread 1024; apart = fresh_apart 1024; counted = ap length (fresh_nodes 1024); few = omega arith; counts = omega arith }
 
 pub returns : goal.returns
 returns c = record { pairs = fresh_pairs 1024; nodes = fresh_nodes 1024; tally = refl }
