@@ -1,4 +1,4 @@
-use Rattle.std.proofs.Common.{◌≡◌, length, refl, ap, ◌∙◌, arith}
+use Rattle.std.proofs.Common.{◌≡◌, length, refl, ap, ◌∙◌, inl, arith}
 use Rattle.std.specs.Slice.Iter.{chunks_exact_rest, chunks_exact_size}
 use Rattle.std.specs.Iterator.Adapters.{enumerate_source, enumerate_count}
 use Rattle.saves.proofs.Reading.{part_is, reading_more, all_read, some_left, taking_start, taking_more, taken_whole, taken_part}
@@ -7,13 +7,13 @@ use Rattle.saves.proofs.load.take_all.Goals as goal
 pub loop-number-init : goal.loop-number-init
 loop-number-init g c =
     let src : enumerate_source c.into_iter-number-iterator.result ≡ c.chunks_exact.result =
-    ap (λ e. enumerate_source e) c.into_iter-number-iterator.ensures.into_iter-gives ∙ c.enumerate-number-items.ensures.source in
+    ap (λ e. enumerate_source e) c.into_iter-number-iterator.ensures.into_iter_gives ∙ c.enumerate-number-items.ensures.source in
     let n : enumerate_count c.into_iter-number-iterator.result ≡ 0 =
-    ap (λ e. enumerate_count e) c.into_iter-number-iterator.ensures.into_iter-gives ∙ c.enumerate-number-items.ensures.count in
+    ap (λ e. enumerate_count e) c.into_iter-number-iterator.ensures.into_iter_gives ∙ c.enumerate-number-items.ensures.count in
     let size : chunks_exact_size (enumerate_source c.into_iter-number-iterator.result) ≡ 32 = ap (λ e. chunks_exact_size e) src ∙ c.chunks_exact.ensures.size in
     let rest : chunks_exact_rest (enumerate_source c.into_iter-number-iterator.result) ≡ c.args.bytes.now = ap (λ e. chunks_exact_rest e) src ∙ c.chunks_exact.ensures.rest in (
-      (tt, omega arith, rw (n, rest, size) (omega arith)),
-      omega arith,
+      (rw size (omega arith), tt, inl (rw (n, rest, size) (omega arith))),
+      tt,
       c.requires.sound,
       size,
       rw (n, rest) (record { rest_is = refl; within = omega arith }),

@@ -63,8 +63,8 @@ mend-requires g c =
     let r = in_row w f room tally i big c.requires.whole c.args.key c.requires.fits n c.requires.place c.requires.some in
     let is = re.kept.order ∙ r.is in
     let x : Partner (order_of u) r.pre c.if-number-eq0.left = elim c.if-number-eq0.branch [
-      | then-number-eq0 v ↦ subst (Partner (order_of u) r.pre) (sym v.left_is) (partner_first u re.forest.table r.pre n r.post is v.if-number-eq0.true (omega (arith, c.if-count-lt2.false, c.count.ensures)))
-      | else-number-eq0 v ↦ subst (Partner (order_of u) r.pre) (sym (v.left_is ∙ v.prev-left.ensures)) (partner_before u re.forest.table r.pre n r.post is (omega (arith, v.if-number-eq0.false)))
+      | then-number-eq0 v ↦ subst (Partner (order_of u) r.pre) (sym v.left-is) (partner_first u re.forest.table r.pre n r.post is v.if-number-eq0.true (omega (arith, c.if-count-lt2.false, c.count.ensures)))
+      | else-number-eq0 v ↦ subst (Partner (order_of u) r.pre) (sym (v.left-is ∙ v.prev-left.ensures)) (partner_before u re.forest.table r.pre n r.post is (omega (arith, v.if-number-eq0.false)))
     ] in
     record {
       trie = trie_kept w f i.table u c.requires.whole.trie re.forest.table re.kept.order re.kept.rep;
@@ -91,8 +91,8 @@ returns g c =
     let is = re.kept.order ∙ r.is in
     let long : 2 ≤ length (order_of u) = omega (arith, c.if-count-lt2.false, c.count.ensures) in
     let x : Partner (order_of u) r.pre c.if-number-eq0.left = elim c.if-number-eq0.branch [
-      | then-number-eq0 v ↦ subst (Partner (order_of u) r.pre) (sym v.left_is) (partner_first u re.forest.table r.pre n r.post is v.if-number-eq0.true long)
-      | else-number-eq0 v ↦ subst (Partner (order_of u) r.pre) (sym (v.left_is ∙ v.prev-left.ensures)) (partner_before u re.forest.table r.pre n r.post is (omega (arith, v.if-number-eq0.false)))
+      | then-number-eq0 v ↦ subst (Partner (order_of u) r.pre) (sym v.left-is) (partner_first u re.forest.table r.pre n r.post is v.if-number-eq0.true long)
+      | else-number-eq0 v ↦ subst (Partner (order_of u) r.pre) (sym (v.left-is ∙ v.prev-left.ensures)) (partner_before u re.forest.table r.pre n r.post is (omega (arith, v.if-number-eq0.false)))
     ] in
     let few : size_of u n < half w = omega (arith, c.if-size-half_width.false, c.size.ensures, c.half_width.ensures.value) in
     let counted = some_counted w f room tally i big c.requires.whole c.args.key c.requires.fits n c.requires.place c.requires.some in
