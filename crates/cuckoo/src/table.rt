@@ -56,9 +56,9 @@ impl Dictionary for Cuckoo {
 
     ghost nowhere = { λ d. pairs_zero d.slots 0 refl };
 
-    ghost within = { first_of (Prim.search rules, Prim.grind (arith, Self.row.coded.inj)) };
+    ghost within = { Prim.search rules };
 
-    ghost counts = { first_of (Prim.search rules, Prim.grind (arith, Self.row.coded.inj)) };
+    ghost counts = { Prim.search rules };
 
     fn new() -> Self {
         Cuckoo {
@@ -143,10 +143,10 @@ mod tests {
     #[test]
     fn a_pair_spills_after_32_pushes(rt: HostRuntime) {
         let table = crowded();
-        assert_eq!(rt; table.slots[316].node, 487_170);
-        assert_eq!(rt; table.slots[901].node, 264_069);
-        assert_eq!(rt; table.slots[1024].node, 1);
-        assert_eq!(rt; table.slots[1025].node, 223_102);
+        assert!(rt; table.slots[316].node == 487_170);
+        assert!(rt; table.slots[901].node == 264_069);
+        assert!(rt; table.slots[1024].node == 1);
+        assert!(rt; table.slots[1025].node == 223_102);
         assert_eq!(rt; table.spilled(), 2);
     }
 
@@ -154,8 +154,8 @@ mod tests {
     fn a_drop_keeps_the_overflow_row_packed(rt: HostRuntime) {
         let mut table = crowded();
         assert!(rt; table.drop_pair(1));
-        assert_eq!(rt; table.slots[1024].node, 223_102);
-        assert_eq!(rt; table.slots[1025].node, 0);
+        assert!(rt; table.slots[1024].node == 223_102);
+        assert!(rt; table.slots[1025].node == 0);
         assert_eq!(rt; table.get(223_102), Some((7, 8)));
         assert_eq!(rt; table.spilled(), 1);
     }

@@ -10,7 +10,7 @@
 --   accepts          whether a put is accepted: not for node 0, and not for a new node at the capacity
 --   one_more         the number of pairs after an accepted put
 --   one-less         the number of pairs after a drop
-use Rattle.std.specs.Prelude.{ℕ, ◌+◌, ◌-◌, ◌^◌, min, Bool, true, false, cond, not, ◌&&◌, ◌||◌, List, [], ◌∷◌, is_some, Some, None, Option, ◌==◌, nat_lt}
+use Rattle.std.specs.Prelude.{ℕ, ◌+◌, ◌-◌, ◌^◌, min, Bool, true, false, cond, not, ◌&&◌, ◌||◌, List, [], ◌∷◌, is_some, None, Option, ◌==◌, nat_lt}
 
 abbrev pub Links : Type 0
 Links = ℕ × ℕ

@@ -3,7 +3,7 @@
 --   first_then     by a first number, then by a second
 --   byte_by_byte   by the first byte in which two rows differ
 --   seven          a number's last seven bytes, the first one highest
-use Rattle.std.specs.Prelude.{ℕ, zero, suc, ◌/◌, ◌%◌, ◌^◌, ◌<◌, Bool, true, false, ◌&&◌, ◌||◌, List, [], ◌∷◌, ◌==◌, nat_lt, slice_index}
+use Rattle.std.specs.Prelude.{ℕ, zero, suc, ◌/◌, ◌%◌, ◌^◌, ◌<◌, Bool, false, ◌&&◌, ◌||◌, List, [], ◌∷◌, ◌==◌, nat_lt, slice_index}
 use Rattle.std.proofs.Common.{arith}
 
 abbrev pub first_then : ℕ → ℕ → ℕ → ℕ → Bool

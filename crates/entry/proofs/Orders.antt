@@ -8,7 +8,7 @@
 --   rising_split, rising_join a rising list is such a split, and the other way round
 --   rising_kept, rising_put, rising_without  what is done to a rising list leaves it rising
 --   at_most_one             a rising list has one entry at a key at most
-use Rattle.std.proofs.Common.{◌≡◌, ℕ, ◌+◌, ◌<◌, ◌≤◌, Bool, true, eqb, ltb, List, [], ◌∷◌, ◌++◌, length, filter, ap, arith}
+use Rattle.std.proofs.Common.{◌≡◌, ℕ, ◌<◌, ◌≤◌, Bool, true, eqb, ltb, List, [], ◌∷◌, ◌++◌, length, filter, ap, arith}
 use Rattle.std.specs.List.{AllByRecursion as All}
 use Rattle.std.proofs.ByRecursion.{All-append, All-weaker, all_kept_by, kept_by_passes}
 use Rattle.std.proofs.lemmas.Bool.{ltb-true, cond_both, eqb-true}

@@ -1,5 +1,5 @@
 -- An add, as a step.
-use Rattle.std.proofs.Common.{◌≡◌, ℕ, suc, ◌+◌, ◌*◌, ◌^◌, ◌<◌, ◌≤◌, min, Bool, true, false, cond, ltb, leb, List, [], ◌∷◌, ◌++◌, map, length, is_some, Some, None, Ok, Option, sym, refl, ap, ◌∙◌, subst, arith}
+use Rattle.std.proofs.Common.{◌≡◌, ℕ, ◌+◌, ◌^◌, ◌<◌, ◌≤◌, true, false, leb, List, [], ◌∷◌, map, length, is_some, Some, Ok, sym, refl, ap, ◌∙◌, subst, arith}
 use mathlib.Core.Bool.{false≢true}
 use Rattle.trees.specs.Answers.{foremost}
 use Rattle.std.specs.List.{AllByRecursion as All}
@@ -15,11 +15,10 @@ use Rattle.buckets.specs.Tables.{rep_of, order_of}
 use Rattle.trie.specs.Sound.{Sound as TrieSound}
 use Rattle.trees.specs.Trees.{seen}
 use Rattle.forest.specs.Forests.{Forest, items_of, tree_of, row_of, grove_of}
-use Rattle.ordered.specs.declared.calls.Answer.{Answer}
 use Rattle.ordered.specs.declared.calls.Call.TheVariants.{Add}
 use Rattle.ordered.specs.declared.refusal.Refusal.{Refusal}
 use Rattle.ordered.specs.declared.refusal.Refusal.TheVariants.{Held, Full}
-use Rattle.ordered.specs.Sorted.{no_add, listed, misfit, answered}
+use Rattle.ordered.specs.Sorted.{no_add, listed, answered}
 use Rattle.rules.specs.Buckets.{Bucket, flat, total, place}
 use Rattle.rules.specs.Buckets.{Sound as BucketsSound}
 use Rattle.rules.specs.Changes.{Change, grown}
@@ -28,8 +27,8 @@ use Rattle.rules.specs.Steps.{Step as RuleStep}
 use Rattle.rules.proofs.Calls.{agrees, spot, at_spot}
 use Rattle.rules.proofs.Spreads.{total_flat, put_size}
 use Rattle.rows.proofs.Served.{InRow, add_served, find_path, here_items}
-use Rattle.runs.specs.States.{Answered, Step, visits, path}
-use Rattle.runs.proofs.Made.{Obeys, Stays, step_made}
+use Rattle.runs.specs.States.{Answered, Step, visits}
+use Rattle.runs.proofs.Made.{Obeys, step_made}
 use Rattle.inside.specs.declared.Inside.{Inside}
 use Rattle.inside.specs.declared.Rebuilt.{Rebuilt}
 use Rattle.inside.specs.Answers.{no_of}

@@ -1,14 +1,13 @@
 -- The bucket behind another, and the entries of both.
-use Rattle.std.proofs.Common.{◌≡◌, ℕ, suc, ◌+◌, ◌^◌, ◌<◌, ◌≤◌, true, List, [], ◌∷◌, ◌++◌, map, sym, refl, ap, ◌∙◌, subst, arith}
-use Rattle.std.specs.List.{AllByRecursion as All}
+use Rattle.std.proofs.Common.{◌≡◌, ℕ, suc, ◌<◌, ◌≤◌, true, List, [], ◌∷◌, ◌++◌, sym, ap, ◌∙◌, subst, arith}
 use Rattle.std.proofs.ByRecursion.{All-weaker}
 use Rattle.dictionary.specs.Pairs.{among}
 use Rattle.entry.specs.declared.Entry.{Entry}
 use Rattle.entry.specs.Lists.{Rising}
 use Rattle.links.specs.Orders.{Behind}
-use Rattle.links.proofs.Orders.{Cut, cut}
+use Rattle.links.proofs.Orders.{cut}
 use Rattle.buckets.specs.declared.Table.{Table}
-use Rattle.buckets.specs.Tables.{rep_of, next_of, prev_of, order_of}
+use Rattle.buckets.specs.Tables.{next_of, order_of}
 use Rattle.buckets.specs.Tables.{Standing as TableStands}
 use Rattle.buckets.proofs.Lays.{neighbours}
 use Rattle.rules.specs.Buckets.{Rise, Spread, lowest}

@@ -1,11 +1,11 @@
 -- An accepted add, by the rules.
-use Rattle.std.proofs.Common.{◌≡◌, ℕ, suc, ◌+◌, ◌*◌, ◌^◌, ◌<◌, ◌≤◌, max, Bool, true, false, cond, ltb, leb, List, [], ◌∷◌, ◌++◌, map, length, take, drop, set, Some, None, sym, refl, ap, ◌∙◌, subst, mul-le-mul_left, arith, length-append}
+use Rattle.std.proofs.Common.{◌≡◌, ℕ, ◌+◌, ◌*◌, ◌^◌, ◌<◌, ◌≤◌, true, false, leb, List, [], ◌∷◌, ◌++◌, map, length, take, drop, set, sym, refl, ap, ◌∙◌, subst, arith, length-append}
 use lib.ListN.{length-map}
 use Rattle.std.proofs.lemmas.Bool.{lt-leb, lt-ltb, le-ltb, cond-true, cond-false}
 use Rattle.dictionary.specs.Pairs.{Pairs}
-use Rattle.key.specs.Widths.{half, buckets_for, needed}
+use Rattle.key.specs.Widths.{half, buckets_for}
 use Rattle.entry.specs.declared.Entry.{Entry}
-use Rattle.entry.specs.Lists.{at, put, filled}
+use Rattle.entry.specs.Lists.{at, put}
 use Rattle.levels.specs.Counts.{searching}
 use Rattle.links.specs.Orders.{holder, Rising}
 use Rattle.links.proofs.Orders.{Not, all_among}
@@ -16,7 +16,7 @@ use Rattle.avl.specs.declared.pool.Pool.{Pool}
 use Rattle.buckets.specs.Tables.{rep_of, order_of}
 use Rattle.forest.specs.Forests.{items_of, tree_of, row_of, Replanted}
 use Rattle.ordered.specs.declared.calls.Call.TheVariants.{Add}
-use Rattle.ordered.specs.Sorted.{misfit, no_add, answered}
+use Rattle.ordered.specs.Sorted.{answered}
 use Rattle.rules.specs.Buckets.{Bucket, hollow, total, here, place, Spread, lowest, size}
 use Rattle.rules.specs.Buckets.{Sound as BucketsSound}
 use Rattle.rules.specs.Changes.{Change, with_items, grown, split_at, still, halves}
@@ -26,7 +26,7 @@ use Rattle.rules.proofs.Calls.{agrees, spot, changed_items}
 use Rattle.rules.proofs.Running.{keeps}
 use Rattle.rules.proofs.Moves.{cut_at}
 use Rattle.rules.proofs.Spreads.{rise_put}
-use Rattle.rows.specs.Rows.{bucket, row}
+use Rattle.rows.specs.Rows.{bucket}
 use Rattle.rows.proofs.Cuts.{at_cut, set_cut}
 use Rattle.rows.proofs.Served.{InRow, add_served, placed, here_items}
 use Rattle.inside.specs.declared.Inside.{Inside}

@@ -1,5 +1,5 @@
 -- What is known of an index once its keys have passed, and once they have not.
-use Rattle.std.proofs.Common.{◌≡◌, ℕ, ◌^◌, ◌<◌, ◌≤◌, Bool, true, false, cond, leb, List, Some, None, Option, sym, refl, ap, ◌∙◌, subst, inl, inr, arith}
+use Rattle.std.proofs.Common.{◌≡◌, ℕ, ◌^◌, ◌<◌, ◌≤◌, Bool, true, false, leb, List, Some, None, sym, refl, ap, ◌∙◌, subst, inl, inr, arith}
 use Rattle.std.proofs.lemmas.Bool.{cases_Bool, cond-true, leb-false}
 use Rattle.key.specs.Widths.{needed}
 use Rattle.trie.specs.Sound.{Sound as TrieSound}
@@ -10,10 +10,10 @@ use Rattle.ordered.specs.declared.calls.Call.TheVariants.{Range}
 use Rattle.ordered.specs.declared.refusal.Refusal.{Refusal}
 use Rattle.ordered.specs.declared.refusal.Refusal.TheVariants.{Shut, TooLarge}
 use Rattle.ordered.specs.Sorted.{misfit, large}
-use Rattle.runs.specs.States.{State, Answered, Step}
+use Rattle.runs.specs.States.{Answered, Step}
 use Rattle.inside.specs.declared.Inside.{Inside}
 use Rattle.inside.specs.Answers.{no_of, bars}
-use Rattle.inside.specs.Whole.{Whole, Sound, Does, Unless, closed, state_of}
+use Rattle.inside.specs.Whole.{Whole, Sound, Does, Unless, state_of}
 use Rattle.inside.proofs.Quiet.{barred_step, one_key}
 
 -- a call that is barred changes nothing, shut or not

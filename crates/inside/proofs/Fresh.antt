@@ -21,7 +21,6 @@ use Rattle.rules.proofs.Running.{new_sound}
 use Rattle.rows.specs.Rows.{row}
 use Rattle.trie.specs.Sound.{Sound as TrieSound}
 use Rattle.forest.specs.Forests.{tree_of, items_of, places_of, row_of, grove_of, used, Forest}
-use Rattle.inside.specs.declared.Inside.{Inside}
 use Rattle.inside.specs.Whole.{Whole}
 use Rattle.inside.specs.Making.{Bare}
 use Rattle.trees.proofs.Pools.{standing_none}

@@ -14,7 +14,7 @@ use Rattle.buckets.proofs.Lays.{order_is, neighbours}
 use Rattle.avl.specs.declared.pool.Pool.{Pool}
 use Rattle.forest.specs.Forests.{Forest, items_of, tree_of, row_of, Replanted}
 use Rattle.ordered.specs.declared.calls.Rebuilding.TheVariants.{Unchanged, Merge, MergeSplit}
-use Rattle.rules.specs.Buckets.{Bucket, hollow, size, flat, total, several, here, place, lowest, Spread}
+use Rattle.rules.specs.Buckets.{Bucket, hollow, size, flat, several, here, place, lowest, Spread}
 use Rattle.rules.specs.Changes.{with_items, merged, join_at, split_at, share_at, shrunk, still}
 use Rattle.rules.proofs.Calls.{spot, at_spot, changed_items}
 use Rattle.rules.proofs.Moves.{join_alike}

@@ -1,12 +1,11 @@
 -- A merge, as the rules say: two buckets' entries under the first, and the second is no more.
-use Rattle.std.proofs.Common.{◌≡◌, ℕ, suc, ◌+◌, ◌-◌, ◌*◌, ◌/◌, ◌^◌, ◌<◌, ◌≤◌, Bool, true, false, cond, List, [], ◌∷◌, ◌++◌, map, length, take, drop, sym, refl, ap, ◌∙◌, subst, arith}
+use Rattle.std.proofs.Common.{◌≡◌, ℕ, ◌+◌, ◌<◌, true, List, [], ◌∷◌, ◌++◌, map, length, take, drop, sym, refl, ap, ◌∙◌, subst, arith}
 use Rattle.std.specs.List.{flat_map, AllByRecursion as All}
 use Rattle.std.proofs.lemmas.List.{append_assoc}
 use Rattle.dictionary.specs.Pairs.{among}
-use Rattle.entry.specs.declared.Entry.{Entry}
 use Rattle.levels.specs.Counts.{turning}
 use Rattle.links.specs.Orders.{without, Rising}
-use Rattle.links.proofs.Orders.{Not, all_parts, all_among, cut_without, rising_below, rising_parts}
+use Rattle.links.proofs.Orders.{Not, all_among, cut_without, rising_below, rising_parts}
 use Rattle.trees.proofs.Pools.{places_long}
 use Rattle.buckets.specs.declared.Table.{Table}
 use Rattle.buckets.specs.Tables.{rep_of, size_of, root_of, order_of, Shows}
@@ -14,14 +13,14 @@ use Rattle.trees.specs.Trees.{Tree, entries, places}
 use Rattle.trees.specs.Pools.{tree_at, Standing}
 use Rattle.avl.specs.declared.pool.Pool.{Pool}
 use Rattle.avl.specs.Spares.{free, Shared}
-use Rattle.forest.specs.Forests.{tree_of, items_of, places_of, row_of, used, Forest, KeptBut, United}
+use Rattle.forest.specs.Forests.{tree_of, items_of, places_of, row_of, Forest, United}
 use Rattle.rules.specs.Buckets.{Bucket, hollow, reps, here}
-use Rattle.rules.specs.Changes.{Change, splice, merged, join_at}
-use Rattle.rows.specs.Rows.{bucket, row}
+use Rattle.rules.specs.Changes.{merged, join_at}
+use Rattle.rows.specs.Rows.{bucket}
 use Rattle.rows.proofs.Cuts.{at_cut, ahead_cut, splice_cut}
 use Rattle.rows.proofs.Places.{row_reps}
 use Rattle.trie.specs.Sound.{reps_of}
-use Rattle.inside.proofs.Splits.{same_bucket, among_left, among_right, among_first, all_in}
+use Rattle.inside.proofs.Splits.{same_bucket, among_left, among_right, all_in}
 
 -- a number whose part is empty, taken out of the middle
 joined_out : {X : Type 0} (f : ℕ → List X) (m : ℕ) (pre post : List ℕ) → f m ≡ [] → flat_map f (pre ++ m ∷ post) ≡ flat_map f (pre ++ post)

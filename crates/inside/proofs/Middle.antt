@@ -1,5 +1,5 @@
 -- The lowest key of a bucket's upper half can be a representative behind it.
-use Rattle.std.proofs.Common.{◌≡◌, ℕ, ◌+◌, ◌/◌, ◌^◌, ◌<◌, ◌≤◌, List, [], ◌∷◌, ◌++◌, map, length, drop, sym, refl, ap, ◌∙◌, subst, arith}
+use Rattle.std.proofs.Common.{◌≡◌, ℕ, ◌/◌, ◌^◌, ◌<◌, ◌≤◌, List, [], ◌∷◌, ◌++◌, length, drop, sym, ap, ◌∙◌, subst, arith}
 use Rattle.std.specs.List.{AllByRecursion as All}
 use Rattle.std.proofs.ByRecursion.{All-weaker}
 use Rattle.dictionary.specs.Pairs.{Pairs}
@@ -12,10 +12,8 @@ use Rattle.links.proofs.Found.{holder_at}
 use Rattle.buckets.specs.declared.Table.{Table}
 use Rattle.buckets.specs.Tables.{rep_of, order_of}
 use Rattle.buckets.specs.Tables.{Standing as TableStands}
-use Rattle.avl.specs.declared.pool.Pool.{Pool}
 use Rattle.trie.specs.Sound.{Sound as TrieSound}
-use Rattle.forest.specs.Forests.{items_of, row_of}
-use Rattle.rules.specs.Buckets.{Bucket, lowest, Rise, Spread}
+use Rattle.rules.specs.Buckets.{lowest, Spread}
 use Rattle.rules.proofs.Moves.{rise_split}
 use Rattle.rules.proofs.Spreads.{spread_parts, lowest_le}
 use Rattle.rows.specs.Rows.{bucket, row}

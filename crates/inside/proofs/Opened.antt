@@ -1,21 +1,18 @@
 -- A bucket opened behind another: it has no tree yet, and all others are as they were.
-use Rattle.std.proofs.Common.{◌≡◌, ℕ, ◌+◌, ◌<◌, ◌≤◌, Bool, true, false, cond, eqb, ltb, List, [], ◌∷◌, ◌++◌, map, length, sym, refl, ap, ◌∙◌, subst, arith}
+use Rattle.std.proofs.Common.{◌≡◌, ℕ, false, eqb, List, [], ◌∷◌, ◌++◌, length, sym, refl, ap, ◌∙◌, subst, arith}
 use Rattle.std.specs.List.{flat_map, AllByRecursion as All}
 use Rattle.std.proofs.lemmas.Bool.{cond-true, cond-false, ne_eqb, eq-eqb}
 use Rattle.dictionary.specs.Pairs.{among}
-use Rattle.entry.specs.declared.Entry.{Entry}
-use Rattle.links.specs.Orders.{with_at, put_after, without}
-use Rattle.links.proofs.Orders.{Not, with_same, with_other, apart_all, all_parts}
+use Rattle.links.specs.Orders.{with_at, put_after}
+use Rattle.links.proofs.Orders.{Not, with_same, with_other, apart_all}
 use Rattle.buckets.specs.declared.Table.{Table}
 use Rattle.buckets.specs.Tables.{rep_of, size_of, root_of, order_of, no_tree, Shows}
-use Rattle.trees.specs.declared.Node.{Node}
-use Rattle.trees.specs.Counts.{times}
-use Rattle.trees.specs.Trees.{Tree, leaf, entries, places}
-use Rattle.trees.specs.Pools.{tree_at, Standing, Stands}
+use Rattle.trees.specs.Trees.{leaf, entries, places}
+use Rattle.trees.specs.Pools.{tree_at, Standing}
 use Rattle.trees.proofs.Pools.{end_is, standing_none}
 use Rattle.avl.specs.declared.pool.Pool.{Pool}
 use Rattle.avl.specs.Spares.{free, Shared}
-use Rattle.forest.specs.Forests.{tree_of, items_of, places_of, row_of, used, Forest}
+use Rattle.forest.specs.Forests.{tree_of, items_of, places_of, Forest}
 
 pub put_behind : (n m : ℕ) (pre post : List ℕ) → All (Not n) pre → put_after n m (pre ++ n ∷ post) ≡ pre ++ n ∷ m ∷ post
 put_behind n m [] post a = cond-true (eqb n n) _ _ (eq-eqb n n refl)

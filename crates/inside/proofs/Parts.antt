@@ -1,13 +1,11 @@
 -- The state of an index from its parts.
-use Rattle.std.proofs.Common.{◌≡◌, ℕ, ◌+◌, ◌^◌, ◌<◌, ◌≤◌, List, [], ◌∷◌, map, sym, refl, ap, ◌∙◌}
+use Rattle.std.proofs.Common.{◌≡◌, ℕ, ◌^◌, ◌<◌, List, [], ◌∷◌, map, sym, refl}
 use Rattle.std.specs.List.{AllByRecursion as All}
 use Rattle.dictionary.specs.Pairs.{Pairs}
-use Rattle.entry.specs.declared.Entry.{Entry}
 use Rattle.links.specs.Orders.{holder, ZeroFirst}
 use Rattle.buckets.specs.declared.Table.{Table}
 use Rattle.buckets.specs.Tables.{rep_of, root_of, order_of}
 use Rattle.avl.specs.declared.pool.Pool.{Pool}
-use Rattle.trees.specs.Trees.{Tree}
 use Rattle.trees.specs.Pools.{Standing}
 use Rattle.trie.specs.Sound.{Sound as TrieSound}
 use Rattle.forest.specs.Forests.{Forest, tree_of, items_of, row_of, grove_of}
@@ -16,7 +14,7 @@ use Rattle.rows.specs.Rows.{row}
 use Rattle.rows.proofs.Places.{row_reps}
 use Rattle.rows.proofs.Served.{InRow}
 use Rattle.rows.proofs.Holders.{in_row}
-use Rattle.runs.specs.States.{State, Planted, Laid}
+use Rattle.runs.specs.States.{Planted, Laid}
 use Rattle.runs.specs.States.{Sound as StateSound}
 use Rattle.inside.specs.declared.Inside.{Inside}
 use Rattle.inside.specs.Whole.{Whole, state_of}

@@ -1,32 +1,29 @@
 -- Calls that change nothing, and calls turned away before their first frame.
-use Rattle.std.proofs.Common.{◌≡◌, ℕ, ◌+◌, ◌^◌, ◌<◌, ◌≤◌, Bool, true, false, cond, ◌||◌, ltb, leb, List, [], ◌∷◌, ◌++◌, map, length, Some, None, Option, sym, refl, ap, ◌∙◌, subst, inl, inr, arith}
-use Rattle.std.proofs.lemmas.Bool.{cond-true, cond-false, lt-leb, le-ltb, cases_Bool}
+use Rattle.std.proofs.Common.{◌≡◌, ℕ, ◌+◌, ◌^◌, ◌<◌, ◌≤◌, false, cond, ltb, leb, List, [], ◌∷◌, ◌++◌, map, Some, None, Option, sym, refl, ap, ◌∙◌, inl, inr, arith}
+use Rattle.std.proofs.lemmas.Bool.{cond-false, lt-leb, le-ltb, cases_Bool}
 use Rattle.dictionary.specs.Pairs.{Pairs, raised}
 use Rattle.entry.specs.declared.Entry.{Entry}
 use Rattle.entry.specs.Lists.{at, from, upto, filled, first, final}
-use Rattle.key.specs.Widths.{most}
 use Rattle.levels.specs.Counts.{searching}
 use Rattle.links.specs.Orders.{holder}
 use Rattle.buckets.specs.Tables.{rep_of, order_of}
 use Rattle.ordered.specs.declared.calls.Call.{Call}
-use Rattle.ordered.specs.declared.calls.Call.TheVariants.{Add, Remove, Find, Next, Last, Range}
+use Rattle.ordered.specs.declared.calls.Call.TheVariants.{Find, Next, Last, Range}
 use Rattle.ordered.specs.declared.calls.Rebuilding.TheVariants.{Unchanged}
 use Rattle.ordered.specs.declared.refusal.Refusal.{Refusal}
-use Rattle.ordered.specs.declared.refusal.Refusal.TheVariants.{Shut, TooLarge, Order, Absent, Nothing}
-use Rattle.ordered.specs.Sorted.{Told, misfit, large, refused, tells, no_find, no_near, changed}
-use Rattle.rules.specs.Buckets.{Bucket}
-use Rattle.rules.specs.Steps.{reads, served, step, barred}
-use Rattle.rules.specs.Steps.{Step as RuleStep}
-use Rattle.trees.specs.Trees.{Tree, leaf, seen, low_way, high_way}
+use Rattle.ordered.specs.declared.refusal.Refusal.TheVariants.{Absent, Nothing}
+use Rattle.ordered.specs.Sorted.{misfit, large, tells, no_find, no_near}
+use Rattle.rules.specs.Steps.{step}
+use Rattle.trees.specs.Trees.{leaf, seen, low_way, high_way}
 use Rattle.trees.specs.Answers.{foremost, hindmost}
 use Rattle.forest.specs.Forests.{tree_of, items_of, row_of, grove_of}
 use Rattle.rows.specs.Rows.{ahead, back}
 use Rattle.rows.proofs.Served.{InRow, find_served, find_path, next_served, next_path, last_served, last_path}
-use Rattle.runs.specs.States.{State, Answered, Step, told_by, visits, path, unbarred}
-use Rattle.runs.proofs.Made.{Obeys, Stays, step_made}
+use Rattle.runs.specs.States.{Answered, Step, told_by, visits}
+use Rattle.runs.proofs.Made.{Obeys, step_made}
 use Rattle.inside.specs.declared.Inside.{Inside}
-use Rattle.inside.specs.Answers.{yes_of, no_of, reply_of, bars}
-use Rattle.inside.specs.Whole.{Whole, Sound, Does, closed, state_of}
+use Rattle.inside.specs.Answers.{no_of, reply_of}
+use Rattle.inside.specs.Whole.{Whole, state_of}
 use Rattle.inside.proofs.Parts.{planted, laid, held_in}
 
 -- ---- keys that fit

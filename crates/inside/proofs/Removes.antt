@@ -1,10 +1,9 @@
 -- A remove, as a step.
-use Rattle.std.proofs.Common.{◌≡◌, ℕ, suc, ◌+◌, ◌*◌, ◌^◌, ◌<◌, ◌≤◌, min, Bool, true, false, cond, List, [], ◌∷◌, ◌++◌, map, length, set, is_some, Some, None, Ok, Option, sym, refl, ap, ◌∙◌, subst, mul-le-mul_left, mul-one, arith}
-use mathlib.Core.Bool.{false≢true}
+use Rattle.std.proofs.Common.{◌≡◌, ℕ, ◌+◌, ◌*◌, ◌^◌, ◌<◌, ◌≤◌, List, [], ◌∷◌, map, length, set, Some, None, Ok, sym, refl, ap, ◌∙◌, subst, mul-le-mul_left, mul-one, arith}
 use Rattle.std.specs.List.{AllByRecursion as All}
 use Rattle.std.proofs.ByRecursion.{All-append, all_kept_by}
 use Rattle.dictionary.specs.Pairs.{Pairs, raised}
-use Rattle.key.specs.Widths.{needed, most, half}
+use Rattle.key.specs.Widths.{needed, most}
 use Rattle.entry.specs.declared.Entry.{Entry}
 use Rattle.entry.specs.Lists.{at, without, below, above, filled, first}
 use Rattle.levels.specs.Counts.{searching}
@@ -19,7 +18,7 @@ use Rattle.ordered.specs.declared.refusal.Refusal.TheVariants.{Absent}
 use Rattle.ordered.specs.Numbers.{rebuilt}
 use Rattle.ordered.specs.declared.calls.Rebuilding.{Rebuilding}
 use Rattle.ordered.specs.declared.calls.Rebuilding.TheVariants.{Unchanged, Split, Merge, MergeSplit}
-use Rattle.ordered.specs.Sorted.{no_find, listed, answered}
+use Rattle.ordered.specs.Sorted.{listed, answered}
 use Rattle.rules.specs.Buckets.{Bucket, flat, total, place, here, lowest}
 use Rattle.rules.specs.Buckets.{Sound as BucketsSound}
 use Rattle.rules.specs.Changes.{Change, with_items, shrunk}
@@ -28,8 +27,8 @@ use Rattle.rules.specs.Steps.{Step as RuleStep}
 use Rattle.rules.proofs.Calls.{agrees, spot, at_spot}
 use Rattle.rules.proofs.Spreads.{total_flat, without_size, rise_flat}
 use Rattle.rows.proofs.Served.{InRow, remove_served, find_path, here_items, placed}
-use Rattle.runs.specs.States.{Answered, Step, visits, path}
-use Rattle.runs.proofs.Made.{Obeys, Stays, step_made}
+use Rattle.runs.specs.States.{Answered, Step, visits}
+use Rattle.runs.proofs.Made.{Obeys, step_made}
 use Rattle.inside.specs.declared.Inside.{Inside}
 use Rattle.inside.specs.declared.Rebuilt.{Rebuilt}
 use Rattle.inside.specs.Answers.{no_of}

@@ -1,26 +1,26 @@
 -- A split and a merge, as the rules say.
-use Rattle.std.proofs.Common.{◌≡◌, ℕ, suc, ◌+◌, ◌-◌, ◌*◌, ◌/◌, ◌^◌, ◌<◌, ◌≤◌, Bool, true, false, cond, ◌||◌, eqb, List, [], ◌∷◌, ◌++◌, map, length, get_or, take, drop, sym, refl, ap, ◌∙◌, subst, inl, inr, arith}
+use Rattle.std.proofs.Common.{◌≡◌, ℕ, ◌+◌, ◌/◌, true, false, ◌||◌, eqb, List, [], ◌∷◌, ◌++◌, map, length, take, drop, sym, refl, ap, ◌∙◌, subst, inl, inr}
 use mathlib.Core.Bool.{false≢true}
 use Rattle.std.proofs.lemmas.Bool.{cases_Bool, eq-eqb}
-use Rattle.std.specs.List.{flat_map, AllByRecursion as All}
-use Rattle.dictionary.specs.Pairs.{Pairs, among}
+use Rattle.std.specs.List.{AllByRecursion as All}
+use Rattle.dictionary.specs.Pairs.{among}
 use Rattle.entry.specs.declared.Entry.{Entry}
 use Rattle.entry.specs.Lists.{first}
 use Rattle.levels.specs.Counts.{turning}
-use Rattle.links.specs.Orders.{with_at, put_after, without, Rising}
+use Rattle.links.specs.Orders.{with_at, put_after}
 use Rattle.links.proofs.Orders.{Not, apart_all, all_parts, all_among}
 use Rattle.buckets.specs.declared.Table.{Table}
 use Rattle.buckets.specs.Tables.{rep_of, size_of, root_of, order_of, no_tree, Shows}
-use Rattle.trees.specs.Trees.{Tree, leaf, entries, places}
+use Rattle.trees.specs.Trees.{entries}
 use Rattle.avl.specs.declared.pool.Pool.{Pool}
-use Rattle.forest.specs.Forests.{tree_of, items_of, places_of, row_of, used, Forest, KeptBut, Halved, United}
-use Rattle.rules.specs.Buckets.{Bucket, hollow, size, reps, here}
-use Rattle.rules.specs.Changes.{Change, splice, low_half, high_half, halves, merged, split_at, join_at}
-use Rattle.rows.specs.Rows.{bucket, row}
+use Rattle.forest.specs.Forests.{items_of, row_of, Forest, Halved}
+use Rattle.rules.specs.Buckets.{Bucket, hollow, reps, here}
+use Rattle.rules.specs.Changes.{low_half, high_half, split_at}
+use Rattle.rows.specs.Rows.{bucket}
 use Rattle.rows.proofs.Cuts.{at_cut, splice_cut}
 use Rattle.rows.proofs.Places.{row_reps}
 use Rattle.trie.specs.Sound.{reps_of}
-use Rattle.inside.proofs.Opened.{order_opened, tree_other, tree_new, rep_other, rep_new}
+use Rattle.inside.proofs.Opened.{order_opened, tree_other, rep_other, rep_new}
 
 pub same_bucket : (a b : Bucket) → a.rep ≡ b.rep → a.items ≡ b.items → a ≡ b
 same_bucket a b p q = λ i. record { rep = p i; items = q i }

@@ -1,5 +1,5 @@
 -- Keys with equal numbers are equal: a bound has one proof at most.
-use Rattle.std.specs.Prelude.{◌≡◌, ℕ, ◌^◌, ◌<◌, ◌≤◌, List, length, slice_index}
+use Rattle.std.specs.Prelude.{◌≡◌, ℕ, ◌^◌, ◌<◌, List, length, slice_index}
 use Rattle.std.proofs.Common.{ap, subst}
 use mathlib.Core.HLevel.{×_prop, Π_prop}
 use Rattle.std.proofs.Math.Bridge.{le_prop}

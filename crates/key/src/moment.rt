@@ -20,9 +20,9 @@ impl Key for Moment {
 
     ghost before = { moment_before };
 
-    ghost wide = { first_of (Prim.search rules, Prim.grind (arith, Self.row.coded.inj)) };
+    ghost wide = { Prim.search rules };
 
-    ghost below = { first_of (Prim.search rules, Prim.grind (arith, Self.row.coded.inj)) };
+    ghost below = { Prim.search rules };
 
     ghost again = { λ k. within_again (2 ^ 48) moment_at (moment_bits k) k (omega arith) (moment_same _ _ (omega arith) (omega arith)) };
 

@@ -22,7 +22,7 @@ impl Key for Name {
 
     ghost before = { name_before };
 
-    ghost wide = { first_of (Prim.search rules, Prim.grind (arith, Self.row.coded.inj)) };
+    ghost wide = { Prim.search rules };
 
     ghost below = { λ k. small k };
 

@@ -20,9 +20,9 @@ impl Key for Station {
 
     ghost before = { station_before };
 
-    ghost wide = { first_of (Prim.search rules, Prim.grind (arith, Self.row.coded.inj)) };
+    ghost wide = { Prim.search rules };
 
-    ghost below = { first_of (Prim.search rules, Prim.grind (arith, Self.row.coded.inj)) };
+    ghost below = { Prim.search rules };
 
     ghost again = { λ k. within_again (2 ^ 32) station_at (station_bits k) k (omega arith) (station_same _ _ (omega arith) (omega arith)) };
 

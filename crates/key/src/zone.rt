@@ -19,9 +19,9 @@ impl Key for Zone {
 
     ghost before = { zone_before };
 
-    ghost wide = { first_of (Prim.search rules, Prim.grind (arith, Self.row.coded.inj)) };
+    ghost wide = { Prim.search rules };
 
-    ghost below = { first_of (Prim.search rules, Prim.grind (arith, Self.row.coded.inj)) };
+    ghost below = { Prim.search rules };
 
     ghost again = { λ k. within_again 256 zone_at k.number k (omega arith) (zone_same _ _ (omega arith)) };
 
@@ -29,7 +29,7 @@ impl Key for Zone {
 
     ghost every = { λ n h. within_every 256 zone_at n h };
 
-    ghost ordered = { first_of (Prim.search rules, Prim.grind (arith, Self.row.coded.inj)) };
+    ghost ordered = { Prim.search rules };
 
     fn bit_width() -> u32 {
         Self::WIDTH

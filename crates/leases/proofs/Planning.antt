@@ -19,7 +19,7 @@ use Rattle.ordered.specs.declared.calls.Call.TheVariants.{Add, Remove, Find, Nex
 use Rattle.ordered.specs.declared.calls.Rebuilding.TheVariants.{Unchanged}
 use Rattle.ordered.specs.declared.refusal.Refusal.{Refusal}
 use Rattle.ordered.specs.Sorted.{Listed, no_add, no_find, no_near, no_range, tells, writes, misfit, fitting, listed, unless as listed_unless, changed}
-use Rattle.ordered.specs.Meaning.{View, Stepped, answers, told, after}
+use Rattle.ordered.specs.Meaning.{View, Stepped, answers, told}
 use Rattle.leases.specs.Plans.{Plan, Steps, none, next, Planned, frames_of, visits_of, rebuilding_of, changes_of, refusal, together, turned_away, call_plan}
 
 -- an index whose searches take at most seven frames, below the top of its tally

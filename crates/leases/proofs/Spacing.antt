@@ -4,7 +4,7 @@
 --   spaced_put       a lease put in where it shares no station
 --   spaced_without   one taken out
 --   none_shared      no station lies in two
-use Rattle.std.proofs.Common.{◌≡◌, ℕ, zero, suc, ◌<◌, ◌≤◌, Bool, false, ltb, ◌⊎◌, List, [], ◌∷◌, ◌++◌, length, get_or, filter, inl, inr, ⊎_elim, arith}
+use Rattle.std.proofs.Common.{◌≡◌, ℕ, zero, suc, ◌<◌, ◌≤◌, Bool, false, ltb, List, [], ◌∷◌, ◌++◌, length, get_or, filter, inl, inr, ⊎_elim, arith}
 use Rattle.std.specs.List.{AllByRecursion as All}
 use Rattle.std.proofs.ByRecursion.{all_kept_by, All-append, All-weaker, All-get_or}
 use Rattle.std.proofs.lemmas.Bool.{cases_Bool, cases_order, cases_lt, ltb-true, ltb-false, le-ltb}

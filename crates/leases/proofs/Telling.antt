@@ -9,7 +9,7 @@ use Rattle.ordered.specs.declared.calls.Call.TheVariants.{Find, Next, Last}
 use Rattle.ordered.specs.declared.refusal.Refusal.{Refusal}
 use Rattle.ordered.specs.declared.refusal.Refusal.TheVariants.{Absent, Nothing}
 use Rattle.ordered.specs.Sorted.{Listed, large, misfit, no_find, no_near, tells, fitting, listed}
-use Rattle.ordered.specs.Meaning.{View, Stepped, answers, told, after}
+use Rattle.ordered.specs.Meaning.{View, Stepped, answers}
 use Rattle.leases.proofs.Planning.{Quiet, tells_number}
 
 pub fits : (w k : ℕ) → k < 2 ^ w → large w k ≡ None

@@ -5,7 +5,7 @@
 --   at_end w rs r j    r is the least or the greatest of rs under its node at level j
 --   ends w rs r j      at how many of the levels below j it is
 --   turning w rs r     the frames of setting up r among rs, or of taking it away: a get a level, and a put or drop where it is at an end
-use Rattle.std.specs.Prelude.{ℕ, zero, suc, ◌+◌, ◌-◌, ◌/◌, Bool, true, false, cond, not, ◌&&◌, ◌||◌, List, [], ◌∷◌, nat_le}
+use Rattle.std.specs.Prelude.{ℕ, zero, suc, ◌+◌, ◌-◌, ◌/◌, Bool, true, cond, not, ◌&&◌, ◌||◌, List, [], ◌∷◌, nat_le}
 use Rattle.levels.specs.Nodes.{under, present}
 
 -- the first number bounds the steps

@@ -3,7 +3,7 @@
 --   node_at w k j     the node of a key k at level j
 --   under w k j r     r lies under the node of k at level j
 --   present w rs k j  some number of rs lies under the node of k at level j
-use Rattle.std.specs.Prelude.{ℕ, ◌+◌, ◌-◌, ◌/◌, ◌^◌, Bool, true, false, ◌||◌, List, [], ◌∷◌, ◌==◌}
+use Rattle.std.specs.Prelude.{ℕ, ◌+◌, ◌-◌, ◌/◌, ◌^◌, Bool, false, ◌||◌, List, [], ◌∷◌, ◌==◌}
 
 unfoldable pub node_at : ℕ → ℕ → ℕ → ℕ
 node_at w k j = 2 ^ j + k / 2 ^ (w - j)

@@ -43,9 +43,9 @@ impl Dictionary for RobinHood {
 
     ghost nowhere = { λ d. pairs_zero d.slots 0 refl };
 
-    ghost within = { first_of (Prim.search rules, Prim.grind (arith, Self.row.coded.inj)) };
+    ghost within = { Prim.search rules };
 
-    ghost counts = { first_of (Prim.search rules, Prim.grind (arith, Self.row.coded.inj)) };
+    ghost counts = { Prim.search rules };
 
     fn new() -> Self {
         RobinHood {
@@ -129,22 +129,22 @@ mod tests {
     #[test]
     fn a_put_walks_round_the_end(rt: HostRuntime) {
         let table = crowded();
-        assert_eq!(rt; table.slots[1022].node, 377);
-        assert_eq!(rt; table.slots[1023].node, 1364);
-        assert_eq!(rt; table.slots[0].node, 1974);
-        assert_eq!(rt; table.slots[1].node, 2584);
-        assert_eq!(rt; table.slots[2].node, 987);
-        assert_eq!(rt; table.slots[3].node, 610);
+        assert!(rt; table.slots[1022].node == 377);
+        assert!(rt; table.slots[1023].node == 1364);
+        assert!(rt; table.slots[0].node == 1974);
+        assert!(rt; table.slots[1].node == 2584);
+        assert!(rt; table.slots[2].node == 987);
+        assert!(rt; table.slots[3].node == 610);
     }
 
     #[test]
     fn a_drop_moves_the_followers_back(rt: HostRuntime) {
         let mut table = crowded();
         assert!(rt; table.drop_pair(377));
-        assert_eq!(rt; table.slots[1022].node, 1364);
-        assert_eq!(rt; table.slots[1023].node, 1974);
-        assert_eq!(rt; table.slots[2].node, 610);
-        assert_eq!(rt; table.slots[3].node, 0);
+        assert!(rt; table.slots[1022].node == 1364);
+        assert!(rt; table.slots[1023].node == 1974);
+        assert!(rt; table.slots[2].node == 610);
+        assert!(rt; table.slots[3].node == 0);
         assert_eq!(rt; table.get(610), Some((7, 8)));
         assert_eq!(rt; table.pairs_held(), 5);
     }

@@ -5,10 +5,10 @@
 --   split-cut                     a number put in behind it, and its own value replaced
 --   join-cut                      the number behind it taken out, and its own value replaced
 --   take_cut, drop_cut            the part before it; the part from it on
-use Rattle.std.proofs.Common.{◌≡◌, ℕ, zero, suc, ◌+◌, List, [], ◌∷◌, ◌++◌, map, length, get_or, take, drop, set, sym, refl, ap, ◌∙◌, subst, add-one, arith}
+use Rattle.std.proofs.Common.{◌≡◌, ℕ, suc, ◌+◌, List, [], ◌∷◌, ◌++◌, map, length, get_or, take, drop, set, sym, refl, ap, ◌∙◌, subst, arith}
 use Rattle.std.specs.List.{AllByRecursion as All}
 use Rattle.links.specs.Orders.{last_from}
-use Rattle.rows.specs.Rows.{ahead, back}
+use Rattle.rows.specs.Rows.{ahead}
 
 module _ {X : Type 0} (f : ℕ → X) where
   pub map_append : (xs ys : List ℕ) → map f (xs ++ ys) ≡ map f xs ++ map f ys

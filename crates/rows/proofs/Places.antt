@@ -1,11 +1,10 @@
 -- The place of a key's bucket in the row.
-use Rattle.std.proofs.Common.{◌≡◌, ℕ, zero, suc, ◌+◌, ◌<◌, ◌≤◌, Bool, true, false, cond, leb, List, [], ◌∷◌, ◌++◌, map, length, drop, sym, refl, ap, ◌∙◌, subst, arith}
+use Rattle.std.proofs.Common.{◌≡◌, ℕ, suc, ◌+◌, ◌<◌, ◌≤◌, true, leb, List, [], ◌∷◌, ◌++◌, map, length, refl, ap, ◌∙◌, arith}
 use Rattle.std.specs.List.{flat_map, AllByRecursion as All}
 use Rattle.std.proofs.lemmas.Bool.{cond-true, cond-false, le-leb, lt-leb}
 use Rattle.entry.specs.declared.Entry.{Entry}
-use Rattle.links.specs.Orders.{Rising}
-use Rattle.rules.specs.Buckets.{Bucket, reps, flat, several, place, standing}
-use Rattle.rows.specs.Rows.{bucket, row}
+use Rattle.rules.specs.Buckets.{reps, flat, several, place, standing}
+use Rattle.rows.specs.Rows.{row}
 
 module _ (rep : ℕ → ℕ) (items : ℕ → List Entry) where
   pub row_reps : (order : List ℕ) → reps (row rep items order) ≡ map rep order

@@ -3,16 +3,15 @@
 --   InRow k                  the order cut at the bucket of k
 --   find_served, ..          each call, by that bucket and its neighbours
 --   find_path, ..            and its visits
-use Rattle.std.proofs.Common.{◌≡◌, ℕ, zero, suc, ◌+◌, ◌<◌, ◌≤◌, Bool, cond, List, [], ◌∷◌, ◌++◌, map, length, get_or, drop, set, sym, refl, ap, ◌∙◌, subst, arith}
+use Rattle.std.proofs.Common.{◌≡◌, ℕ, ◌+◌, ◌<◌, ◌≤◌, cond, List, [], ◌∷◌, ◌++◌, map, length, get_or, drop, refl, ap, ◌∙◌}
 use Rattle.std.specs.List.{flat_map, AllByRecursion as All}
 use Rattle.entry.specs.declared.Entry.{Entry}
-use Rattle.entry.specs.Lists.{at, from, upto, between, put, without, filled, first, final}
+use Rattle.entry.specs.Lists.{at, from, upto, between, filled, first, final}
 use Rattle.levels.specs.Counts.{searching}
-use Rattle.links.specs.Orders.{last_from}
 use Rattle.ordered.specs.declared.calls.Call.TheVariants.{Add, Remove, Find, Next, Last, Range}
 use Rattle.ordered.specs.Sorted.{no_add, no_find, no_near, no_range, tells, writes}
 use Rattle.rules.specs.Buckets.{Bucket, hollow, here, place, behind, flat, total, reps}
-use Rattle.rules.specs.Steps.{Step, reads, served, added, removed}
+use Rattle.rules.specs.Steps.{reads, served, added, removed}
 use Rattle.runs.specs.States.{path, tree_at, tree_behind}
 use Rattle.trees.specs.Trees.{Tree, leaf, seen, low_way, high_way}
 use Rattle.rows.specs.Rows.{bucket, row, ahead, back}

@@ -1,5 +1,5 @@
 -- Runs of calls: the laws, from the single calls.
-use Rattle.std.proofs.Common.{ℕ, suc, ◌+◌, ◌-◌, ◌*◌, ◌^◌, ◌<◌, ◌≤◌, true, List, [], ◌∷◌, length, sym, refl, ◌∙◌, suc-mul, mul_comm, add-mul, mul-suc, arith, pow_pos}
+use Rattle.std.proofs.Common.{ℕ, suc, ◌+◌, ◌-◌, ◌*◌, ◌^◌, ◌<◌, ◌≤◌, List, [], ◌∷◌, length, sym, refl, ◌∙◌, suc-mul, mul_comm, add-mul, mul-suc, arith, pow_pos}
 use mathlib.Core.Bool.{false≢true}
 use Rattle.std.proofs.lemmas.List.Sums.{sum_by-cons}
 use Rattle.std.proofs.lemmas.Nat.{le-div}
@@ -13,7 +13,7 @@ use Rattle.ordered.specs.Kinds.{Kind, KindLaws}
 use Rattle.ordered.proofs.Agree.{lists_agree}
 use Rattle.rules.specs.Buckets.{Bucket, new, size, flat, total, lowest, Rise, Sized, Sound}
 use Rattle.rules.specs.Steps.{Reply, step}
-use Rattle.rules.specs.Runs.{after, replies, changes, frames, rebuildings, told, saved}
+use Rattle.rules.specs.Runs.{after, replies, changes, frames, rebuildings, saved}
 use Rattle.rules.specs.Laws.{Keeps, BucketsKeep, RebuildingsRare, FramesBounded, CallsBounded, NewRuns, Listing, AsAList, AsOwnList}
 use Rattle.rules.proofs.Potential.{lacks}
 use Rattle.rules.proofs.Sizes.{Low, High}

@@ -4,7 +4,6 @@ use native.Mathlib.Nat.{pow-succ'}
 use Rattle.std.proofs.lemmas.List.{length-map, get_or-map}
 use Rattle.std.proofs.lemmas.Bool.{cond_both, leb-true, leb-false, eqb-true, eqb-false, eq-eqb, or_cases, or_parts, or_left, cases_order, true≢false, false≢true}
 use Rattle.std.proofs.lemmas.Nat.{pow_pos, shr-shr, shr_split, div_below}
-use Rattle.entry.specs.Lists.{at}
 use Rattle.levels.specs.Nodes.{node_at, any, under, present}
 use Rattle.rules.specs.Buckets.{Bucket, hollow, reps, here, place, lowest, Spread, Sound}
 use Rattle.rules.specs.Search.{deepest_by, deepest, first_of, last_of, named, found, Climb, Sits}

@@ -1,9 +1,7 @@
 -- A run follows the rules call by call, and one run goes on where another ended.
-use Rattle.std.proofs.Common.{◌≡◌, ℕ, suc, ◌+◌, ◌^◌, ◌<◌, ◌≤◌, min, List, [], ◌∷◌, ◌++◌, map, sym, refl, ap, ◌∙◌, subst, arith}
+use Rattle.std.proofs.Common.{◌≡◌, ℕ, ◌+◌, ◌^◌, ◌<◌, ◌≤◌, List, [], ◌∷◌, ◌++◌, map, sym, refl, ap, ◌∙◌, arith}
 use Rattle.std.proofs.lemmas.List.Sums.{sum_by-cons}
-use Rattle.dictionary.specs.Pairs.{raised}
 use Rattle.ordered.specs.Runs.{Asked}
-use Rattle.rules.specs.Buckets.{Bucket}
 use Rattle.rules.specs.Steps.{Reply, step}
 use Rattle.rules.specs.Runs.{after, replies}
 use Rattle.rules.proofs.Calls.{agrees}

@@ -1,9 +1,9 @@
 -- What is counted over answers is what the rules count over replies.
-use Rattle.std.proofs.Common.{◌≡◌, ℕ, ◌+◌, List, [], ◌∷◌, map, sum_by, sym, refl, ap, ◌∙◌, arith}
+use Rattle.std.proofs.Common.{◌≡◌, ℕ, ◌+◌, List, [], ◌∷◌, map, sum_by, sym, refl, ap, ◌∙◌}
 use Rattle.std.proofs.lemmas.List.Sums.{sum_by-cons}
 use Rattle.ordered.specs.Numbers.{rebuilt}
 use Rattle.ordered.specs.Runs.{Asked}
-use Rattle.ordered.specs.Sorted.{Told, changed}
+use Rattle.ordered.specs.Sorted.{changed}
 use Rattle.rules.specs.Steps.{Reply}
 use Rattle.rules.specs.Runs.{frames as frames_replied, changes as changes_replied, rebuildings as rebuildings_replied, told as told_replied}
 use Rattle.runs.specs.States.{Answered, told_by}

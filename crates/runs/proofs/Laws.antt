@@ -1,5 +1,5 @@
 -- The law over runs.
-use Rattle.std.proofs.Common.{◌≡◌, ℕ, ◌+◌, ◌*◌, ◌^◌, ◌<◌, ◌≤◌, List, [], ◌∷◌, map, length, Ok, Err, Result, sym, refl, ap, ◌∙◌, subst, mul_comm, mul-le-mul, arith}
+use Rattle.std.proofs.Common.{◌≡◌, ℕ, ◌+◌, ◌*◌, ◌^◌, ◌<◌, ◌≤◌, List, [], ◌∷◌, length, Ok, Err, Result, ap, ◌∙◌, mul_comm, mul-le-mul, arith}
 use Rattle.key.specs.Widths.{half, most}
 use Rattle.key.proofs.Logs.{most_within}
 use Rattle.entry.specs.declared.Entry.{Entry}
@@ -7,16 +7,16 @@ use Rattle.ordered.specs.declared.calls.Call.{Call}
 use Rattle.ordered.specs.declared.calls.Call.TheVariants.{Add, Remove, Find, Next, Last, Range}
 use Rattle.ordered.specs.declared.refusal.Refusal.{Refusal}
 use Rattle.ordered.specs.Sorted.{accepted, changed}
-use Rattle.ordered.specs.Runs.{Asked, own_answers, own_after}
-use Rattle.ordered.specs.Kinds.{Kind, KindLaws, shown}
+use Rattle.ordered.specs.Runs.{Asked}
+use Rattle.ordered.specs.Kinds.{Kind, KindLaws}
 use Rattle.rules.specs.Buckets.{new, flat}
 use Rattle.rules.specs.Runs.{after, replies, saved, frames as frames_replied, changes as changes_replied, rebuildings as rebuildings_replied, told as told_replied}
 use Rattle.rules.proofs.Running.{rebuildings_rare, frames_bounded, as_own_list}
 use Rattle.runs.specs.States.{State, Answered, Sound}
-use Rattle.runs.specs.Runs.{Run, frames, changes, rebuildings, told}
+use Rattle.runs.specs.Runs.{Run, frames, changes, rebuildings}
 use Rattle.runs.specs.Law.{Law, General}
-use Rattle.runs.proofs.Counting.{reply_of, same_frames, same_rebuildings, same_changes, same_told}
-use Rattle.runs.proofs.Chains.{Follows, follows, rises}
+use Rattle.runs.proofs.Counting.{same_frames, same_rebuildings, same_changes, same_told}
+use Rattle.runs.proofs.Chains.{follows, rises}
 use Rattle.runs.proofs.Visits.{all_short}
 
 -- each change is one call's

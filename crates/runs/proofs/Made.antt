@@ -10,7 +10,7 @@ use Rattle.rules.specs.Buckets.{Sound as BucketsSound}
 use Rattle.rules.specs.Steps.{step}
 use Rattle.rules.specs.Steps.{Step as RuleStep}
 use Rattle.rules.proofs.Calls.{agrees}
-use Rattle.runs.specs.States.{State, Planted, Laid, Answered, told_by, visits, Sound, Step}
+use Rattle.runs.specs.States.{State, Planted, Laid, Answered, told_by, visits, Step}
 
 -- the answer and the buckets after are those of t, which the rules give
 pub record Obeys (a : Answered) (s' : List Bucket) (t : RuleStep) : Type 0 where

@@ -1,11 +1,10 @@
 -- A question's visits stay on the search path of one tree and on the way to the end of another.
-use Rattle.std.proofs.Common.{◌≡◌, ℕ, zero, suc, ◌+◌, ◌*◌, ◌^◌, ◌<◌, ◌≤◌, Bool, cond, List, [], ◌∷◌, map, length, get_or, Some, None, Option, sym, refl, ap, ◌∙◌, subst, arith}
+use Rattle.std.proofs.Common.{◌≡◌, ℕ, zero, suc, ◌+◌, ◌*◌, ◌<◌, ◌≤◌, List, [], ◌∷◌, length, Some, None, Option, sym, refl, ap, ◌∙◌, arith}
 use Rattle.std.specs.List.{AllByRecursion as All}
 use Rattle.std.proofs.lemmas.Bool.{cond_both}
 use Rattle.key.specs.Widths.{half, most}
 use Rattle.key.proofs.Logs.{half_within}
 use Rattle.entry.specs.Lists.{from, upto, filled}
-use Rattle.ordered.specs.declared.calls.Answer.{Answer}
 use Rattle.ordered.specs.declared.calls.Call.{Call}
 use Rattle.ordered.specs.declared.calls.Call.TheVariants.{Add, Remove, Find, Next, Last, Range}
 use Rattle.ordered.specs.declared.refusal.Refusal.{Refusal}
@@ -15,11 +14,11 @@ use Rattle.ordered.specs.Sorted.{misfit, changed}
 use Rattle.rules.specs.Buckets.{Bucket, size, here, place}
 use Rattle.rules.specs.Steps.{step}
 use Rattle.rules.proofs.Calls.{agrees}
-use Rattle.trees.specs.Trees.{Tree, leaf, entries, tall, Balanced, seen, low_way, high_way}
+use Rattle.trees.specs.Trees.{Tree, tall, seen, low_way, high_way}
 use Rattle.trees.specs.Heights.{highest}
 use Rattle.trees.proofs.Heights.{highest_tree}
 use Rattle.trees.proofs.Paths.{seen_low, low_way_low, high_way_low}
-use Rattle.runs.specs.States.{State, Answered, Step, Sound, Planted, tree_at, tree_behind, path, unbarred, visits, told_by}
+use Rattle.runs.specs.States.{State, Answered, Step, Sound, Planted, tree_at, tree_behind, unbarred, visits, told_by}
 use Rattle.runs.specs.Runs.{Run, ended, then}
 use Rattle.runs.specs.Law.{Few, Short, AllShort}
 

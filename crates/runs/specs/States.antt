@@ -11,7 +11,7 @@
 --   visits          the visits of any call
 --   Answered        an answer, and the caller's places after it
 --   Step            a call, with the caller's places as they stood, its answer, and the state after it
-use Rattle.std.specs.Prelude.{◌≡◌, ℕ, zero, suc, ◌+◌, ◌^◌, ◌<◌, ◌≤◌, cond, List, [], ◌∷◌, map, Some, None, Option, slice_index_or}
+use Rattle.std.specs.Prelude.{◌≡◌, ℕ, zero, suc, ◌+◌, ◌^◌, ◌<◌, cond, List, [], ◌∷◌, map, Some, None, Option, slice_index_or}
 use Rattle.std.specs.List.{AllByRecursion as All}
 use Rattle.dictionary.specs.Pairs.{Pairs, raised}
 use Rattle.entry.specs.declared.Entry.{Entry}

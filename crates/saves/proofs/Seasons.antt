@@ -1,11 +1,10 @@
 -- A season, deed by deed.
-use Rattle.std.proofs.Common.{◌≡◌, ℕ, ◌+◌, ◌-◌, ◌*◌, ◌<◌, ◌≤◌, min, ◌⊎◌, List, [], ◌∷◌, ◌++◌, length, get_or, take, drop, set, sym, refl, ap, ◌∙◌, subst, ⊎_elim, arith, length-append, length-drop, take_all, drop-drop}
+use Rattle.std.proofs.Common.{◌≡◌, ℕ, ◌+◌, ◌-◌, ◌*◌, ◌<◌, ◌≤◌, min, List, [], ◌∷◌, ◌++◌, length, get_or, take, drop, set, sym, refl, ap, ◌∙◌, subst, ⊎_elim, arith, length-append, length-drop, take_all, drop-drop}
 use Rattle.std.proofs.lemmas.List.{take_more, take_more_set, drop-set-lt, drop_all}
 use Rattle.std.proofs.lemmas.Bool.{cases_lt}
 use Rattle.ordered.specs.declared.calls.Answer.{Answer}
 use Rattle.book.specs.Books.{BookView}
 use Rattle.book.specs.Serving.{Served}
-use Rattle.book.specs.Runs.{frames, changes}
 use Rattle.book.proofs.Summing.{Adds, adds_none, adds_then, adds_frames, frames_adds, served_adds}
 use Rattle.saves.specs.declared.load.Loaded.{Loaded as LoadAnswer}
 use Rattle.saves.specs.declared.season.Deed.{Deed}

@@ -1,4 +1,4 @@
-use Rattle.std.proofs.Common.{◌≡◌, ℕ, ◌+◌, ◌-◌, sym, ap, ◌∙◌, subst, arith}
+use Rattle.std.proofs.Common.{◌≡◌, ◌+◌, ◌-◌, ap, ◌∙◌, subst, arith}
 use Rattle.key.specs.Widths.{LogUp, log_up, most}
 use Rattle.key.proofs.Logs.{most_within}
 use Rattle.key.proofs.sizes.search_bound.Goals as goal

@@ -1,4 +1,4 @@
-use Rattle.std.proofs.Common.{◌≡◌, ℕ, ◌+◌, ◌<◌, ◌≤◌, ◌++◌, length, drop, Ok, sym, refl, ap, ◌∙◌, arith}
+use Rattle.std.proofs.Common.{◌≡◌, ℕ, ◌<◌, ◌≤◌, ◌++◌, length, drop, Ok, sym, refl, ap, ◌∙◌, arith}
 use Rattle.saves.specs.Saves.{saved, too_long, kept}
 use Rattle.saves.proofs.Saving.{length_saved, whole}
 use Rattle.saves.proofs.save.save.Goals as goal

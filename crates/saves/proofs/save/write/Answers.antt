@@ -3,7 +3,6 @@ use Rattle.std.proofs.ByRecursion.{All-get_or}
 use Rattle.entry.specs.declared.Entry.{Entry}
 use Rattle.entry.specs.Lists.{blank}
 use Rattle.wire.specs.Records.{wire}
-use Rattle.saves.specs.Saves.{form}
 use Rattle.saves.proofs.Saving.{writing_start, writing_more, writing_end}
 use Rattle.saves.proofs.save.write.Goals as goal
 

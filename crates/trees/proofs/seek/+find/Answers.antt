@@ -1,4 +1,4 @@
-use Rattle.std.proofs.Common.{◌<◌, Some, None, sym, refl, ap, ◌∙◌, subst, arith}
+use Rattle.std.proofs.Common.{◌<◌, Some, sym, refl, ap, ◌∙◌, subst, arith}
 use Rattle.entry.specs.Lists.{at}
 use Rattle.trees.specs.Trees.{seen}
 use Rattle.trees.specs.Pools.{left_at, right_at, node_at}

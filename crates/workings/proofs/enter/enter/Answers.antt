@@ -1,21 +1,20 @@
-use Rattle.std.proofs.Common.{◌≡◌, ℕ, suc, ◌+◌, ◌*◌, ◌^◌, ◌<◌, ◌≤◌, Bool, true, List, [], ◌∷◌, ◌++◌, map, length, sym, refl, ap, ◌∙◌, subst, mul-le-mul_left, arith}
-use Rattle.std.specs.List.{flat_map}
-use Rattle.dictionary.specs.Pairs.{among, raised}
-use Rattle.key.specs.Widths.{half, buckets_for, needed}
+use Rattle.std.proofs.Common.{◌≡◌, ℕ, ◌+◌, ◌*◌, ◌^◌, ◌<◌, ◌≤◌, true, List, [], ◌∷◌, ◌++◌, length, sym, refl, ap, ◌∙◌, subst, mul-le-mul_left, arith}
+use Rattle.dictionary.specs.Pairs.{among}
+use Rattle.key.specs.Widths.{half}
 use Rattle.entry.specs.Lists.{at, put}
 use Rattle.links.specs.Orders.{holder}
 use Rattle.links.proofs.Orders.{all_among}
-use Rattle.buckets.specs.Tables.{rep_of, size_of, root_of, order_of}
+use Rattle.buckets.specs.Tables.{rep_of, size_of, order_of}
 use Rattle.buckets.proofs.Lays.{small}
-use Rattle.forest.specs.Forests.{items_of, tree_of, row_of, used, Replanted}
+use Rattle.forest.specs.Forests.{items_of, tree_of, row_of, Replanted}
 use Rattle.ordered.specs.declared.calls.Rebuilding.TheVariants.{Split}
 use Rattle.rows.proofs.Served.{placed}
 use Rattle.forest.proofs.Alters.{used_long}
-use Rattle.rules.specs.Buckets.{Bucket, here, place, size, Spread, total, flat}
+use Rattle.rules.specs.Buckets.{Bucket, here, place, size, Spread}
 use Rattle.rules.specs.Changes.{Change, grown, split_at}
 use Rattle.rules.proofs.Spreads.{total_flat}
 use Rattle.rows.proofs.Places.{row_flat}
-use Rattle.inside.specs.Changing.{with_entry, Entered}
+use Rattle.inside.specs.Changing.{with_entry}
 use Rattle.inside.proofs.Parts.{held_in}
 use Rattle.inside.proofs.Middle.{trie_kept}
 use Rattle.inside.proofs.Enter.{entered_spread, stays_as, splits_as, row_entered, size_entered, one_more}

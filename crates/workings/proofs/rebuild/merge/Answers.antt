@@ -1,17 +1,13 @@
-use Rattle.std.proofs.Common.{◌≡◌, ℕ, ◌+◌, ◌^◌, ◌<◌, ◌≤◌, true, List, [], ◌∷◌, ◌++◌, length, sym, refl, ap, ◌∙◌, subst, inl, inr, arith}
+use Rattle.std.proofs.Common.{◌≡◌, ℕ, ◌^◌, true, List, [], ◌∷◌, ◌++◌, sym, refl, ap, ◌∙◌, subst, inl, inr, arith}
 use Rattle.std.proofs.lemmas.Bool.{cases_eq}
 use Rattle.dictionary.specs.Pairs.{among}
-use Rattle.entry.specs.Lists.{Rising}
-use Rattle.levels.specs.Counts.{turning}
-use Rattle.links.specs.Orders.{without}
 use Rattle.links.specs.Orders.{Rising as RepsRise}
 use Rattle.links.proofs.Orders.{rising_parts}
-use Rattle.buckets.specs.Tables.{rep_of, size_of, root_of, next_of, order_of, Shows}
+use Rattle.buckets.specs.Tables.{rep_of, order_of}
 use Rattle.buckets.proofs.Lays.{small, neighbours}
-use Rattle.forest.specs.Forests.{items_of, row_of, United}
+use Rattle.forest.specs.Forests.{items_of}
 use Rattle.rules.specs.Buckets.{Spread}
 use Rattle.rows.specs.Rows.{row}
-use Rattle.trie.specs.Sound.{reps_of}
 use Rattle.inside.proofs.Middle.{trie_kept}
 use Rattle.inside.proofs.Splits.{among_right, among_first}
 use Rattle.inside.proofs.Beside.{Pair, pair, both_rise}

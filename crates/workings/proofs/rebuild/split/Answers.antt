@@ -1,19 +1,18 @@
-use Rattle.std.proofs.Common.{◌≡◌, ℕ, ◌+◌, ◌/◌, ◌^◌, ◌≤◌, true, List, [], ◌∷◌, ◌++◌, length, drop, sym, refl, ap, ◌∙◌, subst, arith}
+use Rattle.std.proofs.Common.{◌≡◌, ◌/◌, ◌^◌, true, [], ◌∷◌, length, drop, sym, refl, ap, ◌∙◌, subst}
 use mathlib.Core.Bool.{false≢true}
-use Rattle.std.specs.List.{AllByRecursion as All}
 use Rattle.dictionary.specs.Pairs.{among}
 use Rattle.entry.specs.Lists.{first}
 use Rattle.levels.specs.Counts.{turning}
 use Rattle.links.specs.Orders.{Rising, put_after, with_at}
-use Rattle.links.proofs.Orders.{Cut, cut, Not}
+use Rattle.links.proofs.Orders.{cut}
 use Rattle.buckets.specs.Tables.{rep_of, size_of, root_of, order_of, no_tree, Shows}
 use Rattle.trie.specs.Sound.{reps_of}
 use Rattle.trees.specs.Trees.{entries}
-use Rattle.forest.specs.Forests.{items_of, row_of}
+use Rattle.forest.specs.Forests.{items_of}
 use Rattle.rules.specs.Buckets.{Spread}
 use Rattle.rows.specs.Rows.{row}
 use Rattle.inside.proofs.Middle.{Middle, middle, trie_kept, not_before, not_behind}
-use Rattle.inside.proofs.Opened.{order_opened, tree_other, tree_new, forest_opened}
+use Rattle.inside.proofs.Opened.{order_opened, tree_new, forest_opened}
 use Rattle.inside.proofs.Splits.{row_split, frames_split, among_right, among_first}
 use Rattle.workings.proofs.rebuild.split.Goals as goal
 

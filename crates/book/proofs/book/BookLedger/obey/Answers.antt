@@ -5,7 +5,6 @@ use Rattle.leases.proofs.Planning.{one_call}
 use Rattle.leases.proofs.Carrying.{seven}
 use Rattle.book.specs.Books.{view_of, Standing}
 use Rattle.book.proofs.Obeying.{refused_shut, refused_early, moved, names_bounded, leases_bounded, events_bounded}
-use Rattle.book.proofs.book.BookLedger.obey.Given as given
 use Rattle.book.proofs.book.BookLedger.obey.Goals as goal
 
 pub returns-then-is_shut : goal.returns-then-is_shut

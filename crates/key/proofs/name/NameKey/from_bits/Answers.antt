@@ -1,4 +1,4 @@
-use Rattle.std.proofs.Common.{◌^◌, List, [], ◌∷◌, get_or, sym, ap, ◌∙◌, arith}
+use Rattle.std.proofs.Common.{◌^◌, [], ◌∷◌, get_or, sym, ap, ◌∙◌, arith}
 use Rattle.key.specs.Kinds.{name_at}
 use Rattle.key.specs.Same.{name_same}
 use Rattle.key.specs.Within.{within_again}

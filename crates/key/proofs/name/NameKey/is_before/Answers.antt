@@ -1,4 +1,4 @@
-use Rattle.std.proofs.Common.{◌<◌, sym, ◌∙◌, arith}
+use Rattle.std.proofs.Common.{sym, ◌∙◌, arith}
 use Rattle.digits.proofs.Order.{differ_at, differ_nowhere}
 use Rattle.key.proofs.name.NameKey.is_before.Goals as goal
 

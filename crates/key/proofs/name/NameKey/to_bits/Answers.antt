@@ -1,4 +1,4 @@
-use Rattle.std.proofs.Common.{sym, ◌∙◌, arith}
+use Rattle.std.proofs.Common.{arith}
 use Rattle.digits.proofs.Sevens.{seven_weighs}
 use Rattle.key.proofs.name.NameKey.to_bits.Goals as goal
 

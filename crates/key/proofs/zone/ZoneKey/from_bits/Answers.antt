@@ -1,4 +1,4 @@
-use Rattle.std.proofs.Common.{sym, ◌∙◌, arith}
+use Rattle.std.proofs.Common.{sym, arith}
 use Rattle.key.specs.Kinds.{zone_at}
 use Rattle.key.specs.Same.{zone_same}
 use Rattle.key.specs.Within.{within_again}

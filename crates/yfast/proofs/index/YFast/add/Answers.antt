@@ -1,6 +1,6 @@
-use Rattle.std.proofs.Common.{◌≡◌, ℕ, ◌+◌, ◌*◌, ◌^◌, ◌<◌, ◌≤◌, true, false, List, [], is_some, Ok, sym, refl, ap, ◌∙◌, subst, arith}
+use Rattle.std.proofs.Common.{◌≡◌, ℕ, ◌+◌, ◌≤◌, false, [], is_some, Ok, sym, refl, ap, ◌∙◌, subst, arith}
 use Rattle.dictionary.specs.Pairs.{raised}
-use Rattle.key.specs.Widths.{most, needed}
+use Rattle.key.specs.Widths.{needed}
 use Rattle.key.proofs.Logs.{most_within}
 use Rattle.entry.specs.declared.Entry.{Entry}
 use Rattle.entry.specs.Lists.{at}

@@ -1,5 +1,4 @@
-use Rattle.std.proofs.Common.{◌≡◌, List, [], sym, refl, ap, ◌∙◌, subst}
-use Rattle.entry.specs.declared.Entry.{Entry}
+use Rattle.std.proofs.Common.{◌≡◌, [], sym, refl, ap, ◌∙◌, subst}
 use Rattle.links.proofs.Orders.{all_among}
 use Rattle.dictionary.specs.Pairs.{raised}
 use Rattle.entry.specs.Lists.{at}

@@ -1,20 +1,18 @@
-use Rattle.std.proofs.Common.{◌≡◌, ℕ, ◌+◌, ◌*◌, ◌^◌, ◌<◌, ◌≤◌, true, false, List, [], ◌∷◌, is_some, Ok, sym, refl, ap, ◌∙◌, subst, arith}
+use Rattle.std.proofs.Common.{◌≡◌, ℕ, ◌+◌, ◌≤◌, true, [], Ok, sym, refl, ap, ◌∙◌, subst, arith}
 use Rattle.dictionary.specs.Pairs.{raised}
-use Rattle.key.specs.Widths.{most, needed}
+use Rattle.key.specs.Widths.{needed}
 use Rattle.key.proofs.Logs.{most_within}
-use Rattle.entry.specs.declared.Entry.{Entry}
 use Rattle.entry.specs.Lists.{at, filled}
 use Rattle.levels.specs.Counts.{searching}
 use Rattle.links.specs.Orders.{holder}
 use Rattle.links.proofs.Orders.{all_among}
 use Rattle.trie.specs.Sound.{reps_of}
-use Rattle.forest.specs.Forests.{items_of, tree_of, row_of}
+use Rattle.forest.specs.Forests.{items_of, tree_of}
 use Rattle.trees.specs.Answers.{foremost}
 use Rattle.trees.specs.Trees.{seen}
 use Rattle.trees.specs.Pools.{Standing, tree_at, entries_at}
 use Rattle.buckets.specs.Tables.{rep_of, root_of, order_of}
 use Rattle.buckets.proofs.Lays.{small}
-use Rattle.rules.specs.Buckets.{total}
 use Rattle.ordered.specs.declared.calls.Answer.{Answer}
 use Rattle.ordered.specs.declared.calls.Call.TheVariants.{Remove}
 use Rattle.ordered.specs.declared.refusal.Refusal.TheVariants.{Absent}
