@@ -7,7 +7,7 @@
 --   put_behind, seg_insert, ..     a number put in behind another
 --   linked_past, seg_remove, ..    a number taken out
 use Rattle.std.proofs.Common.{◌≡◌, ℕ, ◌+◌, true, cond, ◌||◌, eqb, List, [], ◌∷◌, ◌++◌, length, sym, refl, ap, ◌∙◌, subst, inl, inr, arith}
-use Rattle.std.specs.List.{AllByRecursion as All}
+use Rattle.std.specs.List.{AllByRecursion}
 use Rattle.std.proofs.ByRecursion.{All-weaker}
 use Rattle.std.proofs.lemmas.Bool.{cases_eq, cases_Bool, eq-eqb, ne_eqb, cond-true, cond-false, or_right, not_from_true, not_from_false, false≢true}
 use Rattle.dictionary.specs.Pairs.{among, apart}
@@ -16,16 +16,16 @@ use Rattle.links.proofs.Orders.{Not, with_same, with_other, all_both, further, a
 use Rattle.buckets.specs.Tables.{row, Seg, Row}
 
 module _ (next prev : ℕ → ℕ) where
-  pub seg_frame : (next' prev' : ℕ → ℕ) (x : ℕ) (ys : List ℕ) (z : ℕ) → All (λ n. next' n ≡ next n) (x ∷ ys) → All (λ n. prev' n ≡ prev n) ys → prev' z ≡ prev z → Seg next prev x ys z → Seg next' prev' x ys z
+  pub seg_frame : (next' prev' : ℕ → ℕ) (x : ℕ) (ys : List ℕ) (z : ℕ) → AllByRecursion (λ n. next' n ≡ next n) (x ∷ ys) → AllByRecursion (λ n. prev' n ≡ prev n) ys → prev' z ≡ prev z → Seg next prev x ys z → Seg next' prev' x ys z
   seg_frame next' prev' x [] z a b c s = (a.0 ∙ s.0, c ∙ s.1)
   seg_frame next' prev' x (y ∷ ys) z a b c s = (a.0 ∙ s.0, b.0 ∙ s.1, seg_frame next' prev' y ys z a.1 b.1 c s.2)
 
-  pub row_frame : (next' : ℕ → ℕ) (x : ℕ) (ys : List ℕ) → All (λ n. next' n ≡ next n) ys → Row next x ys → Row next' x ys
+  pub row_frame : (next' : ℕ → ℕ) (x : ℕ) (ys : List ℕ) → AllByRecursion (λ n. next' n ≡ next n) ys → Row next x ys → Row next' x ys
   row_frame next' x [] a r = tt
   row_frame next' x (y ∷ ys) a r = (r.0, row_frame next' (next' y) ys a.1 (subst (λ z. Row next z ys) (sym a.0) r.1))
 
   -- what a holds next is further on
-  pub next_all : (P : ℕ → Type 0) (a x : ℕ) (ys : List ℕ) (z : ℕ) → Seg next prev x ys z → among a (x ∷ ys) ≡ true → All P ys → P z → P (next a)
+  pub next_all : (P : ℕ → Type 0) (a x : ℕ) (ys : List ℕ) (z : ℕ) → Seg next prev x ys z → among a (x ∷ ys) ≡ true → AllByRecursion P ys → P z → P (next a)
   next_all P a x [] z s t all pz = elim (cases_eq a x) [
     | inl e ↦ subst P (sym (ap next e ∙ s.0)) pz
     | inr e ↦ absurd (false≢true (sym (ne_or a x [] e) ∙ t))
@@ -39,7 +39,7 @@ module _ (next prev : ℕ → ℕ) where
   ]
 
   -- what n holds before it is further back
-  pub prev_all : (P : ℕ → Type 0) (n x : ℕ) (ys : List ℕ) (z : ℕ) → Seg next prev x ys z → among n ys ≡ true → P x → All P ys → P (prev n)
+  pub prev_all : (P : ℕ → Type 0) (n x : ℕ) (ys : List ℕ) (z : ℕ) → Seg next prev x ys z → among n ys ≡ true → P x → AllByRecursion P ys → P (prev n)
   prev_all P n x [] z s t px all = absurd (false≢true t)
   prev_all P n x (y ∷ ys) z s t px all = elim (cases_eq n y) [
     | inl e ↦ subst P (sym (ap prev e ∙ s.1)) px
@@ -125,7 +125,7 @@ module _ (next prev : ℕ → ℕ) (a n : ℕ) where
   back_new p = with_other (with_at prev n a) (next a) n n p ∙ with_same prev n a n refl
 
   -- n comes behind a
-  pub seg_insert : (x : ℕ) (ys : List ℕ) (z : ℕ) → Seg next prev x ys z → among a (x ∷ ys) ≡ true → apart (x ∷ ys) ≡ true → All (Not z) ys → All (Not n) (x ∷ ys) → Not n z →
+  pub seg_insert : (x : ℕ) (ys : List ℕ) (z : ℕ) → Seg next prev x ys z → among a (x ∷ ys) ≡ true → apart (x ∷ ys) ≡ true → AllByRecursion (Not z) ys → AllByRecursion (Not n) (x ∷ ys) → Not n z →
       Seg linked back x (put_behind a n x ys) z
   seg_insert x [] z s t d nz nn zn = elim (cases_eq x a) [
     | inl e ↦ (
@@ -141,8 +141,8 @@ module _ (next prev : ℕ → ℕ) (a n : ℕ) where
         let na : Not a n = λ q. nn.0 (e ∙ sym q) in
         let p = apart_parts x (y ∷ ys) d in
         let r = apart_parts y ys p.1 in
-        let off_a : All (Not a) (y ∷ ys) = All-weaker (Not x) (Not a) (λ m h q. h (q ∙ sym e)) (y ∷ ys) p.0 in
-        let off_c : All (Not (next a)) ys = All-weaker (Not y) (Not (next a)) (λ m h q. h (q ∙ c)) ys r.0 in
+        let off_a : AllByRecursion (Not a) (y ∷ ys) = All-weaker (Not x) (Not a) (λ m h q. h (q ∙ sym e)) (y ∷ ys) p.0 in
+        let off_c : AllByRecursion (Not (next a)) ys = All-weaker (Not y) (Not (next a)) (λ m h q. h (q ∙ c)) ys r.0 in
         subst (λ l. Seg linked back x l z) (sym (cond-true (eqb x a) (n ∷ y ∷ ys) (y ∷ put_behind a n y ys) (eq-eqb x a e))) (
           with_same (with_at next n (next a)) a n x e,
           back_new (λ q. nn.1.0 (sym c ∙ sym q)) ∙ sym e,
@@ -171,12 +171,12 @@ module _ (next prev : ℕ → ℕ) (n : ℕ) where
   abbrev pub back_past : ℕ → ℕ
   back_past = with_at prev (next n) (prev n)
 
-  without_none : (ys : List ℕ) → All (Not n) ys → without n ys ≡ ys
+  without_none : (ys : List ℕ) → AllByRecursion (Not n) ys → without n ys ≡ ys
   without_none [] a = refl
   without_none (y ∷ ys) a = cond-true _ _ _ (not_from_false _ (ne_eqb y n a.0)) ∙ ap (λ l. y ∷ l) (without_none ys a.1)
 
   -- n goes, which stood right behind x
-  past : (x : ℕ) (ys : List ℕ) (z : ℕ) → prev n ≡ x → Seg next prev n ys z → All (Not x) ys → apart ys ≡ true → All (Not z) ys → Seg linked_past back_past x ys z
+  past : (x : ℕ) (ys : List ℕ) (z : ℕ) → prev n ≡ x → Seg next prev n ys z → AllByRecursion (Not x) ys → apart ys ≡ true → AllByRecursion (Not z) ys → Seg linked_past back_past x ys z
   past x [] z e s ax d nz = (with_same next (prev n) (next n) x (sym e) ∙ s.0, with_same prev (next n) (prev n) z (sym s.0) ∙ e)
   past x (y ∷ ys) z e s ax d nz =
       let p = apart_parts y ys d in
@@ -189,14 +189,14 @@ module _ (next prev : ℕ → ℕ) (n : ℕ) where
             (with_other prev (next n) (prev n) z (λ q. nz.0 (sym c ∙ sym q))) s.2,
       )
 
-  pub seg_remove : (x : ℕ) (ys : List ℕ) (z : ℕ) → Seg next prev x ys z → among n ys ≡ true → apart (x ∷ ys) ≡ true → All (Not z) ys → Seg linked_past back_past x (without n ys) z
+  pub seg_remove : (x : ℕ) (ys : List ℕ) (z : ℕ) → Seg next prev x ys z → among n ys ≡ true → apart (x ∷ ys) ≡ true → AllByRecursion (Not z) ys → Seg linked_past back_past x (without n ys) z
   seg_remove x [] z s t d nz = absurd (false≢true t)
   seg_remove x (y ∷ ys) z s t d nz =
       let p = apart_parts x (y ∷ ys) d in
       let r = apart_parts y ys p.1 in
       elim (cases_eq n y) [
         | inl e ↦ (
-            let off : All (Not n) ys = All-weaker (Not y) (Not n) (λ m h q. h (q ∙ e)) ys r.0 in
+            let off : AllByRecursion (Not n) ys = All-weaker (Not y) (Not n) (λ m h q. h (q ∙ e)) ys r.0 in
             let w : without n (y ∷ ys) ≡ ys = cond-false _ _ _ (not_from_true _ (eq-eqb y n (sym e))) ∙ without_none ys off in
             subst (λ l. Seg linked_past back_past x l z) (sym w)
             (past x ys z (ap prev e ∙ s.1) (subst (λ m. Seg next prev m ys z) (sym e) s.2) p.0.1 r.1 nz.1))

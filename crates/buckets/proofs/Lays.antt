@@ -7,7 +7,7 @@
 --   ready, free_small, free_new        the free number that is next to be taken
 --   opened, closed                     a bucket opened behind another, or closed
 use Rattle.std.proofs.Common.{◌≡◌, ℕ, suc, ◌+◌, ◌-◌, ◌<◌, ◌≤◌, true, false, cond, not, ◌||◌, eqb, ltb, List, [], ◌∷◌, length, sym, refl, ap, ◌∙◌, subst, inl, inr, arith}
-use Rattle.std.specs.List.{AllByRecursion as All}
+use Rattle.std.specs.List.{AllByRecursion}
 use Rattle.std.proofs.ByRecursion.{All-weaker}
 use Rattle.std.proofs.lemmas.Bool.{cases_eq, cases_lt, eq-eqb, ne_eqb, cond-true, cond-false, cond_both, le-ltb, and_from, not_from_true, not_from_false, false≢true}
 use Rattle.dictionary.specs.Pairs.{among, apart}
@@ -42,7 +42,7 @@ times_apart [] h = refl
 times_apart (x ∷ xs) h =
     and_from _ _ (not_from_false _ (times_among x xs (omega (arith, h x, once x x refl)))) (times_apart xs (λ m. omega (arith, h m)))
 
-times_all : (P : ℕ → Type 0) (xs : List ℕ) → ((m : ℕ) → 1 ≤ times m xs → P m) → All P xs
+times_all : (P : ℕ → Type 0) (xs : List ℕ) → ((m : ℕ) → 1 ≤ times m xs → P m) → AllByRecursion P xs
 times_all P [] h = tt
 times_all P (x ∷ xs) h = (h x (omega (arith, once x x refl)), times_all P xs (λ m l. h m (omega arith)))
 
@@ -89,19 +89,19 @@ module _ (t : Table) (rest spare : List ℕ) (s : Laid t rest spare) where
   order_apart : apart (0 ∷ rest) ≡ true
   order_apart = times_apart (0 ∷ rest) (λ m. omega (arith, s.shared m, at_most m))
 
-  order_small : All (λ i. i < 128) (0 ∷ rest)
+  order_small : AllByRecursion (λ i. i < 128) (0 ∷ rest)
   order_small = times_all (λ i. i < 128) (0 ∷ rest) (λ m h. small_if m (omega (arith, s.shared m)))
 
-  spare_small : All (λ i. i < 128) spare
+  spare_small : AllByRecursion (λ i. i < 128) spare
   spare_small = times_all (λ i. i < 128) spare (λ m h. small_if m (omega (arith, s.shared m)))
 
-  rest_not_first : All (Not 0) rest
+  rest_not_first : AllByRecursion (Not 0) rest
   rest_not_first = times_all (Not 0) rest (λ m h e. omega (arith, s.shared m, at_most m, once m 0 e))
 
-  spare_apart : (n : ℕ) → 1 ≤ times n spare → All (Not n) (0 ∷ rest)
+  spare_apart : (n : ℕ) → 1 ≤ times n spare → AllByRecursion (Not n) (0 ∷ rest)
   spare_apart n h = times_all (Not n) (0 ∷ rest) (λ m k e. omega (arith, s.shared n, at_most n, ap (λ z. times z (0 ∷ rest)) e))
 
-  order_not_spare : (n : ℕ) → 1 ≤ times n (0 ∷ rest) → All (Not n) spare
+  order_not_spare : (n : ℕ) → 1 ≤ times n (0 ∷ rest) → AllByRecursion (Not n) spare
   order_not_spare n h = times_all (Not n) spare (λ m k e. omega (arith, s.shared n, at_most n, ap (λ z. times z spare) e))
 
   rest_is : rest_of t ≡ rest
@@ -146,7 +146,7 @@ module _ (t u : Table) (rest spare : List ℕ) (s : Laid t rest spare) (n : ℕ)
   close_ring : Seg (with_at (linked_past (next_of t) (prev_of t) n) n t.free) (back_past (next_of t) (prev_of t) n) 0 (without n rest) 0
   close_ring =
       let n0 : Not n 0 = λ e. omega (arith, s.shared n, at_most n, one, once n 0 (sym e)) in
-      let off : All (Not n) (0 ∷ without n rest) = (n0, times_all (Not n) (without n rest) (λ m h e. omega (arith, times_gone n rest, ap (λ z. times z (without n rest)) e))) in
+      let off : AllByRecursion (Not n) (0 ∷ without n rest) = (n0, times_all (Not n) (without n rest) (λ m h e. omega (arith, times_gone n rest, ap (λ z. times z (without n rest)) e))) in
       seg_frame (linked_past (next_of t) (prev_of t) n) (back_past (next_of t) (prev_of t) n) (with_at (linked_past (next_of t) (prev_of t) n) n t.free) (back_past (next_of t) (prev_of t) n) 0 (without n rest) 0
       (All-weaker (Not n) _ (λ m h. with_other (linked_past (next_of t) (prev_of t) n) n t.free m h) (0 ∷ without n rest) off)
       (times_all _ (without n rest) (λ m _. refl)) refl
@@ -214,8 +214,8 @@ module _ (t : Table) (s : Standing t) where
   pub neighbours : Neighbours (next_of t) (prev_of t) (order_of t)
   neighbours = subst (Neighbours (next_of t) (prev_of t)) (sym (order_is t)) (seg_neighbours (next_of t) (prev_of t) (rest_of t) s.ring)
 
-  pub all_small : All (λ i. i < 128) (order_of t)
-  all_small = subst (All (λ i. i < 128)) (sym (order_is t)) (order_small t (rest_of t) (spare_of t) s)
+  pub all_small : AllByRecursion (λ i. i < 128) (order_of t)
+  all_small = subst (AllByRecursion (λ i. i < 128)) (sym (order_is t)) (order_small t (rest_of t) (spare_of t) s)
 
   pub all_apart : apart (order_of t) ≡ true
   all_apart = ap apart (order_is t) ∙ order_apart t (rest_of t) (spare_of t) s

@@ -9,7 +9,7 @@
 --   rising_kept, rising_put, rising_without  what is done to a rising list leaves it rising
 --   at_most_one             a rising list has one entry at a key at most
 use Rattle.std.proofs.Common.{◌≡◌, ℕ, ◌<◌, ◌≤◌, Bool, true, eqb, ltb, List, [], ◌∷◌, ◌++◌, length, filter, ap, arith}
-use Rattle.std.specs.List.{AllByRecursion as All}
+use Rattle.std.specs.List.{AllByRecursion}
 use Rattle.std.proofs.ByRecursion.{All-append, All-weaker, all_kept_by, kept_by_passes}
 use Rattle.std.proofs.lemmas.Bool.{ltb-true, cond_both, eqb-true}
 use Rattle.entry.specs.declared.Entry.{Entry}
@@ -28,7 +28,7 @@ below_under k xs = All-weaker (λ (e : Entry). ltb e.key k ≡ true) (λ (e : En
 pub above_over : (k : ℕ) (xs : List Entry) → Over k (above k xs)
 above_over k xs = All-weaker (λ (e : Entry). ltb k e.key ≡ true) (λ (e : Entry). k < e.key) (λ e h. ltb-true k e.key h) (above k xs) (kept_by_passes _ xs)
 
-pub all_parts : {X : Type 0} (P : X → Type 0) (xs ys : List X) → All P (xs ++ ys) → All P xs × All P ys
+pub all_parts : {X : Type 0} (P : X → Type 0) (xs ys : List X) → AllByRecursion P (xs ++ ys) → AllByRecursion P xs × AllByRecursion P ys
 all_parts P [] ys h = (tt, h)
 all_parts P (x ∷ xs) ys h = let p = all_parts P xs ys h.1 in ((h.0, p.0), p.1)
 
@@ -51,7 +51,7 @@ rising_split (x ∷ xs) e ys h =
     let o = all_parts (λ (z : Entry). x.key < z.key) xs (e ∷ ys) h.0 in
     record { under = (o.1.0, p.under); over = p.over; left = (o.0, p.left); right = p.right }
 
-pub rising_append : (k : ℕ) (xs ys : List Entry) → Under k xs → Rising xs → All (λ (e : Entry). k ≤ e.key) ys → Rising ys → Rising (xs ++ ys)
+pub rising_append : (k : ℕ) (xs ys : List Entry) → Under k xs → Rising xs → AllByRecursion (λ (e : Entry). k ≤ e.key) ys → Rising ys → Rising (xs ++ ys)
 rising_append k [] ys u r o s = s
 rising_append k (x ∷ xs) ys u r o s =
     let n : x.key < k = u.0 in (

@@ -10,7 +10,7 @@
 --   Rising             keys rise
 --   Over, Under        every key is above a number; below it
 use Rattle.std.specs.Prelude.{ℕ, ◌<◌, Bool, true, false, List, [], ◌∷◌, ◌++◌, filter, nat_eq, nat_le, nat_lt}
-use Rattle.std.specs.List.{AllByRecursion as All}
+use Rattle.std.specs.List.{AllByRecursion}
 use Rattle.entry.specs.declared.Entry.{Entry}
 
 abbrev pub blank : Entry
@@ -54,10 +54,10 @@ final (x ∷ []) = x
 final (x ∷ y ∷ ys) = final (y ∷ ys)
 
 abbrev pub Over : ℕ → List Entry → Type 0
-Over k xs = All (λ (e : Entry). k < e.key) xs
+Over k xs = AllByRecursion (λ (e : Entry). k < e.key) xs
 
 abbrev pub Under : ℕ → List Entry → Type 0
-Under k xs = All (λ (e : Entry). e.key < k) xs
+Under k xs = AllByRecursion (λ (e : Entry). e.key < k) xs
 
 abbrev pub Rising : List Entry → Type 0
 Rising [] = Unit {0}

@@ -10,7 +10,7 @@
 --   kept_but, planted    the other trees are as they were; if the altered ones stand, so does the forest
 --   one_moved, two_moved how often an index is in use, after one tree was altered, or two
 use Rattle.std.proofs.Common.{◌≡◌, ℕ, ◌+◌, ◌≤◌, true, cond, ltb, ◌⊎◌, List, [], ◌∷◌, length, sym, refl, ap, ◌∙◌, subst, inl, inr, arith, length-append}
-use Rattle.std.specs.List.{flat_map, AllByRecursion as All}
+use Rattle.std.specs.List.{flat_map, AllByRecursion}
 use Rattle.std.proofs.lemmas.Bool.{cases_eq}
 use Rattle.std.proofs.lemmas.Bool.Decides.{nat_tests}
 use Rattle.dictionary.specs.Pairs.{among}
@@ -31,7 +31,7 @@ use Rattle.forest.proofs.Shares as shares
 use Rattle.forest.proofs.Shares.{here, later, all_from, two_parts}
 
 abbrev pub Far : List ℕ → ℕ → Type 0
-Far ns i = All (λ n. i ≡ n → ⊥) ns
+Far ns i = AllByRecursion (λ n. i ≡ n → ⊥) ns
 
 far_or : (ns : List ℕ) (i : ℕ) → Far ns i ⊎ (among i ns ≡ true)
 far_or [] i = inl tt
@@ -126,10 +126,10 @@ module _ {roots sizes : ℕ → ℕ} (t : Table) (p : Pool) (u : Table) (q : Poo
   kept_but = record { order = a.table.order; rep = a.table.rep; next = a.table.next; prev = a.table.prev; others = others }
 
   -- what holds of the numbers that were altered, and of the others
-  everywhere : (P : ℕ → Type 0) → All P ns → ((i : ℕ) → among i (order_of t) ≡ true → Far ns i → P i) → All P (order_of u)
-  everywhere P new old = subst (All P) (sym a.table.order) (all_from P (order_of t) (λ i s. elim (far_or ns i) [ inl h ↦ old i s h | inr b ↦ all_among P ns i new b ]))
+  everywhere : (P : ℕ → Type 0) → AllByRecursion P ns → ((i : ℕ) → among i (order_of t) ≡ true → Far ns i → P i) → AllByRecursion P (order_of u)
+  everywhere P new old = subst (AllByRecursion P) (sym a.table.order) (all_from P (order_of t) (λ i s. elim (far_or ns i) [ inl h ↦ old i s h | inr b ↦ all_among P ns i new b ]))
 
-  pub planted : All (λ n. Standing q.nodes (root_of u n)) ns → All (λ n. size_of u n ≡ length (items_of u q n)) ns → Shared (used u q) (free q) → Forest u q
+  pub planted : AllByRecursion (λ n. Standing q.nodes (root_of u n)) ns → AllByRecursion (λ n. size_of u n ≡ length (items_of u q n)) ns → Shared (used u q) (free q) → Forest u q
   planted st sz sh = record {
     table = a.table.stands;
     trees = everywhere (λ n. Standing q.nodes (root_of u n)) st others_stand;

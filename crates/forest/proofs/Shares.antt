@@ -6,7 +6,7 @@
 --   moved            how the count changes with one number's list
 --   two_moved        how it changes with two numbers' lists
 use Rattle.std.proofs.Common.{◌≡◌, ℕ, ◌+◌, ◌≤◌, true, cond, eqb, List, [], ◌∷◌, sym, refl, ap, ◌∙◌, inl, inr, arith}
-use Rattle.std.specs.List.{flat_map, AllByRecursion as All}
+use Rattle.std.specs.List.{flat_map, AllByRecursion}
 use Rattle.std.proofs.lemmas.Bool.{cases_eq, eq-eqb, ne_eqb, cond-true, cond-false, or_left, or_right, false≢true}
 use Rattle.dictionary.specs.Pairs.{among, apart}
 use Rattle.links.proofs.Orders.{Not, further, all_among, apart_parts}
@@ -19,7 +19,7 @@ here n x xs e = or_left (eqb n x) (among n xs) (eq-eqb n x e)
 pub later : (n x : ℕ) (xs : List ℕ) → among n xs ≡ true → among n (x ∷ xs) ≡ true
 later n x xs t = or_right (eqb n x) (among n xs) t
 
-pub all_from : (P : ℕ → Type 0) (xs : List ℕ) → ((n : ℕ) → among n xs ≡ true → P n) → All P xs
+pub all_from : (P : ℕ → Type 0) (xs : List ℕ) → ((n : ℕ) → among n xs ≡ true → P n) → AllByRecursion P xs
 all_from P [] h = tt
 all_from P (x ∷ xs) h = (h x (here x x xs refl), all_from P xs (λ n t. h n (later n x xs t)))
 

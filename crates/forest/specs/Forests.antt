@@ -11,7 +11,7 @@
 --   United                         a bucket has its own entries and those of the bucket behind it, which is empty now
 use Rattle.std.specs.Prelude.{◌≡◌, ℕ, ◌/◌, true, List, [], ◌∷◌, ◌++◌, map, length, take, drop, ◌≢◌}
 use Rattle.dictionary.specs.Pairs.{among}
-use Rattle.std.specs.List.{flat_map, AllByRecursion as All}
+use Rattle.std.specs.List.{flat_map, AllByRecursion}
 use Rattle.entry.specs.declared.Entry.{Entry}
 use Rattle.rules.specs.Buckets.{Bucket}
 use Rattle.rows.specs.Rows.{row}
@@ -43,8 +43,8 @@ used t p = flat_map (places_of t p) (order_of t)
 
 pub record Forest (t : Table) (p : Pool) : Type 0 where
   pub table : TableStands t
-  pub trees : All (λ n. Standing p.nodes (root_of t n)) (order_of t)
-  pub sizes : All (λ n. size_of t n ≡ length (items_of t p n)) (order_of t)
+  pub trees : AllByRecursion (λ n. Standing p.nodes (root_of t n)) (order_of t)
+  pub sizes : AllByRecursion (λ n. size_of t n ≡ length (items_of t p n)) (order_of t)
   pub shared : Shared (used t p) (free p)
 
 pub record KeptBut (t : Table) (p : Pool) (u : Table) (q : Pool) (ns : List ℕ) : Type 0 where
@@ -52,7 +52,7 @@ pub record KeptBut (t : Table) (p : Pool) (u : Table) (q : Pool) (ns : List ℕ)
   pub rep : rep_of u ≡ rep_of t
   pub next : next_of u ≡ next_of t
   pub prev : prev_of u ≡ prev_of t
-  pub others : (i : ℕ) → among i (order_of t) ≡ true → All (λ n. i ≢ n) ns → tree_of u q i ≡ tree_of t p i
+  pub others : (i : ℕ) → among i (order_of t) ≡ true → AllByRecursion (λ n. i ≢ n) ns → tree_of u q i ≡ tree_of t p i
 
 pub record Replanted (t : Table) (p : Pool) (u : Table) (q : Pool) (n : ℕ) (es : List Entry) : Type 0 where
   pub forest : Forest u q

@@ -2,7 +2,7 @@
 use Rattle.std.proofs.Common.{◌≡◌, ℕ, ◌+◌, ◌^◌, ◌<◌, ◌≤◌, true, false, leb, List, [], ◌∷◌, map, length, is_some, Some, Ok, sym, refl, ap, ◌∙◌, subst, arith}
 use mathlib.Core.Bool.{false≢true}
 use Rattle.trees.specs.Answers.{foremost}
-use Rattle.std.specs.List.{AllByRecursion as All}
+use Rattle.std.specs.List.{AllByRecursion}
 use Rattle.std.proofs.ByRecursion.{All-append, all_kept_by}
 use Rattle.std.proofs.lemmas.Bool.{le-leb, lt-leb}
 use Rattle.dictionary.specs.Pairs.{Pairs, raised}
@@ -101,10 +101,10 @@ module _ (w : ℕ) (f : Pairs) (room tally : ℕ) (i : Inside) (big : 8 ≤ w) (
     one_more_held =
         total_flat (row_of j.table j.pool) ∙ (ap length flat_after ∙ (put_size e (flat s) (ap filled absent) ∙ ap (λ x. x + 1) (sym (total_flat s))))
 
-    all_noted : All (λ (x : Entry). x.note < 2 ^ 64) (flat (row_of j.table j.pool))
+    all_noted : AllByRecursion (λ (x : Entry). x.note < 2 ^ 64) (flat (row_of j.table j.pool))
     all_noted =
         let P : Entry → Type 0 = λ x. x.note < 2 ^ 64 in
-        subst (All P) (sym flat_after) (All-append P (below k (flat s)) (e ∷ above k (flat s)) (all_kept_by _ P (flat s) wh.notes) (small, all_kept_by _ P (flat s) wh.notes))
+        subst (AllByRecursion P) (sym flat_after) (All-append P (below k (flat s)) (e ∷ above k (flat s)) (all_kept_by _ P (flat s) wh.notes) (small, all_kept_by _ P (flat s) wh.notes))
 
     pub add_whole : Whole w g room' m j
     add_whole = record {

@@ -1,7 +1,7 @@
 -- A new index: a dictionary that fits is empty, and one bucket stands without an entry.
 use Rattle.std.proofs.Common.{◌≡◌, ℕ, ◌+◌, ◌*◌, ◌^◌, ◌<◌, ◌≤◌, Bool, true, false, cond, ◌||◌, eqb, ltb, List, [], ◌∷◌, map, length, is_some, Some, None, Option, sym, refl, ap, ◌∙◌, subst, mul-le-mul_left, arith}
 use mathlib.Core.Path.{fun_ext}
-use Rattle.std.specs.List.{flat_map, AllByRecursion as All}
+use Rattle.std.specs.List.{flat_map, AllByRecursion}
 use Rattle.std.proofs.lemmas.Bool.{ltb-false, or_parts}
 use Rattle.dictionary.specs.Pairs.{Pairs, no_pairs, among}
 use Rattle.entry.specs.declared.Entry.{Entry}
@@ -72,8 +72,8 @@ module _ (t : Table) (p : Pool) (f : Fresh t) where
   pub fresh_bare : (limit : ℕ) (shut : Bool) → Bare (record { table = t; pool = p; limit = limit; count = 0; shut = shut })
   fresh_bare limit shut = record { buckets = fresh_row; trees = fresh_grove; count = refl }
 
-  in_order : (P : ℕ → Type 0) → P 0 → All P (order_of t)
-  in_order P h = subst (All P) (sym f.order) (h, tt)
+  in_order : (P : ℕ → Type 0) → P 0 → AllByRecursion P (order_of t)
+  in_order P h = subst (AllByRecursion P) (sym f.order) (h, tt)
 
   unused_places : used t p ≡ []
   unused_places = ap (flat_map (places_of t p)) f.order ∙ ap (λ (x : Tree). flat_map (λ (n : ℕ). places x) (0 ∷ [])) tree_first
@@ -93,7 +93,7 @@ module _ (t : Table) (p : Pool) (f : Fresh t) where
       trie = so;
       forest = fresh_forest;
       buckets = subst (BucketsSound w limit) (sym fresh_row) (new_sound w limit);
-      notes = subst (λ s. All (λ (e : Entry). e.note < 2 ^ 64) (flat s)) (sym fresh_row) tt;
+      notes = subst (λ s. AllByRecursion (λ (e : Entry). e.note < 2 ^ 64) (flat s)) (sym fresh_row) tt;
       counted = sym (ap total fresh_row);
       small = small;
       fits = enough;

@@ -14,6 +14,7 @@ pub mod Placed
 pub mod Quiet
 pub mod Ranges
 pub mod Running
+pub mod Seen
 pub mod Spans
 pub mod Splits
 pub mod Removes

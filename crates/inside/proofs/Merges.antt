@@ -1,6 +1,6 @@
 -- A merge, as the rules say: two buckets' entries under the first, and the second is no more.
 use Rattle.std.proofs.Common.{◌≡◌, ℕ, ◌+◌, ◌<◌, true, List, [], ◌∷◌, ◌++◌, map, length, take, drop, sym, refl, ap, ◌∙◌, subst, arith}
-use Rattle.std.specs.List.{flat_map, AllByRecursion as All}
+use Rattle.std.specs.List.{flat_map, AllByRecursion}
 use Rattle.std.proofs.lemmas.List.{append_assoc}
 use Rattle.dictionary.specs.Pairs.{among}
 use Rattle.levels.specs.Counts.{turning}
@@ -27,7 +27,7 @@ joined_out : {X : Type 0} (f : ℕ → List X) (m : ℕ) (pre post : List ℕ) �
 joined_out f m [] post z = ap (λ l. l ++ flat_map f post) z
 joined_out f m (x ∷ pre) post z = ap (λ l. f x ++ l) (joined_out f m pre post z)
 
-all_out : (P : ℕ → Type 0) (m : ℕ) (pre post : List ℕ) → All P (pre ++ m ∷ post) → All P (pre ++ post)
+all_out : (P : ℕ → Type 0) (m : ℕ) (pre post : List ℕ) → AllByRecursion P (pre ++ m ∷ post) → AllByRecursion P (pre ++ post)
 all_out P m [] post a = a.1
 all_out P m (x ∷ pre) post a = (a.0, all_out P m pre post a.1)
 
@@ -56,13 +56,13 @@ module _ (t u v : Table) (p q : Pool) (n m : ℕ) (pre post : List ℕ) (cut : o
 
   pub forest_v : Forest v q
   forest_v =
-      let out : (P : ℕ → Type 0) → All P (order_of u) → All P (order_of v) = λ P a. subst (All P) (sym (order_v ∙ sym (append_assoc pre (n ∷ []) post))) (all_out P m (pre ++ n ∷ []) post (subst (All P) order_u a)) in
+      let out : (P : ℕ → Type 0) → AllByRecursion P (order_of u) → AllByRecursion P (order_of v) = λ P a. subst (AllByRecursion P) (sym (order_v ∙ sym (append_assoc pre (n ∷ []) post))) (all_out P m (pre ++ n ∷ []) post (subst (AllByRecursion P) order_u a)) in
       record {
         table = sh.stands;
-        trees = subst (λ (g : ℕ → ℕ). All (λ x. Standing q.nodes (g x)) (order_of v)) (sym sh.root) (out (λ x. Standing q.nodes (root_of u x)) un.forest.trees);
+        trees = subst (λ (g : ℕ → ℕ). AllByRecursion (λ x. Standing q.nodes (g x)) (order_of v)) (sym sh.root) (out (λ x. Standing q.nodes (root_of u x)) un.forest.trees);
         sizes =
-            subst (λ (h : ℕ → ℕ). All (λ x. h x ≡ length (items_of v q x)) (order_of v)) (sym sh.size)
-            (subst (λ (g : ℕ → ℕ). All (λ x. size_of u x ≡ length (entries (tree_at q.nodes (g x)))) (order_of v)) (sym sh.root)
+            subst (λ (h : ℕ → ℕ). AllByRecursion (λ x. h x ≡ length (items_of v q x)) (order_of v)) (sym sh.size)
+            (subst (λ (g : ℕ → ℕ). AllByRecursion (λ x. size_of u x ≡ length (entries (tree_at q.nodes (g x)))) (order_of v)) (sym sh.root)
             (out (λ x. size_of u x ≡ length (items_of u q x)) un.forest.sizes));
         shared = subst (λ l. Shared l (free q)) (sym
             (ap (λ (g : ℕ → ℕ). flat_map (λ x. places (tree_at q.nodes (g x))) (order_of v)) sh.root
@@ -81,25 +81,25 @@ module _ (t u v : Table) (p q : Pool) (n m : ℕ) (pre post : List ℕ) (cut : o
   rep_v : rep_of v ≡ rep_of t
   rep_v = sh.rep ∙ un.kept.rep
 
-  below : All (λ x. rep_of t x < rep_of t n) pre
+  below : AllByRecursion (λ x. rep_of t x < rep_of t n) pre
   below = rising_below (rep_of t) pre n (m ∷ post) (subst (Rising (rep_of t)) cut rises)
 
-  above : All (λ x. rep_of t n < rep_of t x) (m ∷ post)
+  above : AllByRecursion (λ x. rep_of t n < rep_of t x) (m ∷ post)
   above = (rising_parts (rep_of t) pre (n ∷ m ∷ post) (subst (Rising (rep_of t)) cut rises)).1.0
 
-  higher : All (λ x. rep_of t m < rep_of t x) post
+  higher : AllByRecursion (λ x. rep_of t m < rep_of t x) post
   higher = (rising_parts (rep_of t) pre (n ∷ m ∷ post) (subst (Rising (rep_of t)) cut rises)).1.1.0
 
   kept_one : (x : ℕ) → among x (order_of t) ≡ true → Not n x → Not m x → now_is x ≡ old x
   kept_one x o a b = same_bucket (now_is x) (old x) (ap (λ g. g x) rep_v) (ap entries (tree_v x ∙ un.kept.others x o (a, (b, tt))))
 
-  kept_pre : All (λ x. now_is x ≡ old x) pre
+  kept_pre : AllByRecursion (λ x. now_is x ≡ old x) pre
   kept_pre = all_in (λ x. now_is x ≡ old x) pre (λ x h.
       let l = all_among (λ y. rep_of t y < rep_of t n) pre x below h in
       kept_one x (subst (λ o. among x o ≡ true) (sym cut) (among_left x pre (n ∷ m ∷ post) h))
       (λ e. omega (arith, ap (rep_of t) e)) (λ e. omega (arith, ap (rep_of t) e, above.0)))
 
-  kept_post : All (λ x. now_is x ≡ old x) post
+  kept_post : AllByRecursion (λ x. now_is x ≡ old x) post
   kept_post = all_in (λ x. now_is x ≡ old x) post (λ x h.
       let l = all_among (λ y. rep_of t n < rep_of t y) post x above.1 h in
       let k = all_among (λ y. rep_of t m < rep_of t y) post x higher h in

@@ -1,6 +1,6 @@
 -- The lowest key of a bucket's upper half can be a representative behind it.
 use Rattle.std.proofs.Common.{◌≡◌, ℕ, ◌/◌, ◌^◌, ◌<◌, ◌≤◌, List, [], ◌∷◌, ◌++◌, length, drop, sym, ap, ◌∙◌, subst, arith}
-use Rattle.std.specs.List.{AllByRecursion as All}
+use Rattle.std.specs.List.{AllByRecursion}
 use Rattle.std.proofs.ByRecursion.{All-weaker}
 use Rattle.dictionary.specs.Pairs.{Pairs}
 use Rattle.entry.specs.declared.Entry.{Entry}
@@ -24,7 +24,7 @@ pub record Middle (w : ℕ) (rep : ℕ → ℕ) (order : List ℕ) (n mid : ℕ)
   pub fits : mid < 2 ^ w
   pub behind : n ≡ holder rep order mid
 
-all_above : (rep : ℕ → ℕ) (items : ℕ → List Entry) (top mid : ℕ) (post : List ℕ) → mid < lowest top (row rep items post) → Rising rep post → All (λ y. mid < rep y) post
+all_above : (rep : ℕ → ℕ) (items : ℕ → List Entry) (top mid : ℕ) (post : List ℕ) → mid < lowest top (row rep items post) → Rising rep post → AllByRecursion (λ y. mid < rep y) post
 all_above rep items top mid [] h r = tt
 all_above rep items top mid (y ∷ ys) h r = (h, All-weaker (λ z. rep y < rep z) (λ z. mid < rep z) (λ z l. omega arith) ys r.0)
 
@@ -51,8 +51,8 @@ trie_kept w f t u so st o r = record {
 }
 
 -- numbers beside one of an order are others
-pub not_before : (rep : ℕ → ℕ) (n : ℕ) (pre post : List ℕ) → Rising rep (pre ++ n ∷ post) → All (Not n) pre
+pub not_before : (rep : ℕ → ℕ) (n : ℕ) (pre post : List ℕ) → Rising rep (pre ++ n ∷ post) → AllByRecursion (Not n) pre
 not_before rep n pre post r = All-weaker (λ x. rep x < rep n) (Not n) (λ x l e. omega (arith, ap rep e)) pre (rising_below rep pre n post r)
 
-pub not_behind : (rep : ℕ → ℕ) (n : ℕ) (pre post : List ℕ) → Rising rep (pre ++ n ∷ post) → All (Not n) post
+pub not_behind : (rep : ℕ → ℕ) (n : ℕ) (pre post : List ℕ) → Rising rep (pre ++ n ∷ post) → AllByRecursion (Not n) post
 not_behind rep n pre post r = All-weaker (λ x. rep n < rep x) (Not n) (λ x l e. omega (arith, ap rep e)) post (rising_parts rep pre (n ∷ post) r).1.0

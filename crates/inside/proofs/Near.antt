@@ -1,6 +1,6 @@
 -- The bucket behind a bucket and the one before it, and what is found there.
 use Rattle.std.proofs.Common.{◌≡◌, ℕ, ◌+◌, ◌<◌, ◌≤◌, Bool, true, false, cond, List, [], ◌∷◌, ◌++◌, is_some, Some, sym, refl, ap, ◌∙◌, subst, append-nil, arith}
-use Rattle.std.specs.List.{AllByRecursion as All}
+use Rattle.std.specs.List.{AllByRecursion}
 use Rattle.std.proofs.lemmas.Bool.{cond-true, cond-false}
 use Rattle.dictionary.specs.Pairs.{among, apart}
 use Rattle.entry.specs.declared.Entry.{Entry}
@@ -24,23 +24,23 @@ use Rattle.trees.proofs.Pools.{low}
 use Rattle.inside.specs.Near.{Above, Below}
 
 -- ---- neighbours
-behind_all : (P : ℕ → Type 0) (rest pre : List ℕ) (n : ℕ) (post : List ℕ) → 0 ∷ rest ≡ pre ++ n ∷ post → All P rest → All P post
-behind_all P rest [] n post e a = let q : rest ≡ post = cc in subst (All P) q a
-behind_all P rest (x ∷ pre) n post e a = let q : rest ≡ pre ++ n ∷ post = cc in (all_parts P pre (n ∷ post) (subst (All P) q a)).1.1
+behind_all : (P : ℕ → Type 0) (rest pre : List ℕ) (n : ℕ) (post : List ℕ) → 0 ∷ rest ≡ pre ++ n ∷ post → AllByRecursion P rest → AllByRecursion P post
+behind_all P rest [] n post e a = let q : rest ≡ post = cc in subst (AllByRecursion P) q a
+behind_all P rest (x ∷ pre) n post e a = let q : rest ≡ pre ++ n ∷ post = cc in (all_parts P pre (n ∷ post) (subst (AllByRecursion P) q a)).1.1
 
 module _ (t : Table) (s : TableStands t) where
-  order_not_zero : All (Not 0) (rest_of t)
+  order_not_zero : AllByRecursion (Not 0) (rest_of t)
   order_not_zero = (apart_parts 0 (rest_of t) (sym (ap apart (order_is t)) ∙ all_apart t s)).0
 
   -- what holds of each bucket holds of a neighbour
-  pub next_has : (P : ℕ → Type 0) (n : ℕ) → among n (order_of t) ≡ true → All P (order_of t) → P (next_of t n)
+  pub next_has : (P : ℕ → Type 0) (n : ℕ) → among n (order_of t) ≡ true → AllByRecursion P (order_of t) → P (next_of t n)
   next_has P n held a =
-      let b = subst (All P) (order_is t) a in
+      let b = subst (AllByRecursion P) (order_is t) a in
       next_all (next_of t) (prev_of t) P n 0 (rest_of t) 0 s.ring (sym (ap (among n) (order_is t)) ∙ held) b.1 b.0
 
-  pub prev_has : (P : ℕ → Type 0) (n : ℕ) → among n (order_of t) ≡ true → 0 < n → All P (order_of t) → P (prev_of t n)
+  pub prev_has : (P : ℕ → Type 0) (n : ℕ) → among n (order_of t) ≡ true → 0 < n → AllByRecursion P (order_of t) → P (prev_of t n)
   prev_has P n held h a =
-      let b = subst (All P) (order_is t) a in
+      let b = subst (AllByRecursion P) (order_is t) a in
       prev_all (next_of t) (prev_of t) P n 0 (rest_of t) 0 s.ring (later t s n h held) b.0 b.1
 
   module _ (pre : List ℕ) (n : ℕ) (post : List ℕ) (is : order_of t ≡ pre ++ n ∷ post) where
@@ -51,7 +51,7 @@ module _ (t : Table) (s : TableStands t) where
     pub none_behind : next_of t n ≡ 0 → post ≡ []
     none_behind z = go post (neighbours t s pre n post is).1 (behind_all (Not 0) (rest_of t) pre n post cut_is order_not_zero)
       where
-        go : (ys : List ℕ) → Behind ys (next_of t n) → All (Not 0) ys → ys ≡ []
+        go : (ys : List ℕ) → Behind ys (next_of t n) → AllByRecursion (Not 0) ys → ys ≡ []
         go [] b a = refl
         go (y ∷ ys) b a = absurd (a.0 (sym b ∙ z))
 
@@ -68,7 +68,7 @@ module _ (t : Table) (s : TableStands t) where
       where
         go : (xs : List ℕ) → 0 ∷ rest_of t ≡ xs ++ n ∷ post → xs ≡ []
         go [] e = refl
-        go (x ∷ xs) e = let q : rest_of t ≡ xs ++ n ∷ post = cc in absurd ((all_parts (Not 0) xs (n ∷ post) (subst (All (Not 0)) q order_not_zero)).1.0 z)
+        go (x ∷ xs) e = let q : rest_of t ≡ xs ++ n ∷ post = cc in absurd ((all_parts (Not 0) xs (n ∷ post) (subst (AllByRecursion (Not 0)) q order_not_zero)).1.0 z)
 
     pub some_before : 0 < n → {X : Type 0} (d : X) (f : ℕ → X) → back d f pre ≡ f (prev_of t n)
     some_before h d f = go pre cut_is (neighbours t s pre n post is).0

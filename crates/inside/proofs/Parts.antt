@@ -1,6 +1,6 @@
 -- The state of an index from its parts.
 use Rattle.std.proofs.Common.{◌≡◌, ℕ, ◌^◌, ◌<◌, List, [], ◌∷◌, map, sym, refl}
-use Rattle.std.specs.List.{AllByRecursion as All}
+use Rattle.std.specs.List.{AllByRecursion}
 use Rattle.dictionary.specs.Pairs.{Pairs}
 use Rattle.links.specs.Orders.{holder, ZeroFirst}
 use Rattle.buckets.specs.declared.Table.{Table}
@@ -19,7 +19,7 @@ use Rattle.runs.specs.States.{Sound as StateSound}
 use Rattle.inside.specs.declared.Inside.{Inside}
 use Rattle.inside.specs.Whole.{Whole, state_of}
 
-plant : (t : Table) (p : Pool) (order : List ℕ) → All (λ n. Standing p.nodes (root_of t n)) order → Planted (row (rep_of t) (items_of t p) order) (map (tree_of t p) order)
+plant : (t : Table) (p : Pool) (order : List ℕ) → AllByRecursion (λ n. Standing p.nodes (root_of t n)) order → Planted (row (rep_of t) (items_of t p) order) (map (tree_of t p) order)
 plant t p [] a = tt
 plant t p (n ∷ ns) a = (refl, a.0.balanced, plant t p ns a.1)
 

@@ -1,6 +1,6 @@
 -- A remove, as a step.
 use Rattle.std.proofs.Common.{◌≡◌, ℕ, ◌+◌, ◌*◌, ◌^◌, ◌<◌, ◌≤◌, List, [], ◌∷◌, map, length, set, Some, None, Ok, sym, refl, ap, ◌∙◌, subst, mul-le-mul_left, mul-one, arith}
-use Rattle.std.specs.List.{AllByRecursion as All}
+use Rattle.std.specs.List.{AllByRecursion}
 use Rattle.std.proofs.ByRecursion.{All-append, all_kept_by}
 use Rattle.dictionary.specs.Pairs.{Pairs, raised}
 use Rattle.key.specs.Widths.{needed, most}
@@ -123,10 +123,10 @@ module _ (w : ℕ) (f : Pairs) (room tally : ℕ) (i : Inside) (big : 8 ≤ w) (
           ap (λ x. x + 1) (total_flat (row_of j.table j.pool) ∙ ap length flat_after)
           ∙ (without_size (lowest (2 ^ w) s) (2 ^ w) k (flat s) (rise_flat (2 ^ w) s wh.buckets.spread) (ap filled held) ∙ sym (total_flat s))
 
-      all_noted : All (λ (x : Entry). x.note < 2 ^ 64) (flat (row_of j.table j.pool))
+      all_noted : AllByRecursion (λ (x : Entry). x.note < 2 ^ 64) (flat (row_of j.table j.pool))
       all_noted =
           let P : Entry → Type 0 = λ x. x.note < 2 ^ 64 in
-          subst (All P) (sym flat_after) (All-append P (below k (flat s)) (above k (flat s)) (all_kept_by _ P (flat s) wh.notes) (all_kept_by _ P (flat s) wh.notes))
+          subst (AllByRecursion P) (sym flat_after) (All-append P (below k (flat s)) (above k (flat s)) (all_kept_by _ P (flat s) wh.notes) (all_kept_by _ P (flat s) wh.notes))
 
       pub remove_whole : Whole w g room' m j
       remove_whole = record {

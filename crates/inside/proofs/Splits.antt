@@ -2,7 +2,7 @@
 use Rattle.std.proofs.Common.{◌≡◌, ℕ, ◌+◌, ◌/◌, true, false, ◌||◌, eqb, List, [], ◌∷◌, ◌++◌, map, length, take, drop, sym, refl, ap, ◌∙◌, subst, inl, inr}
 use mathlib.Core.Bool.{false≢true}
 use Rattle.std.proofs.lemmas.Bool.{cases_Bool, eq-eqb}
-use Rattle.std.specs.List.{AllByRecursion as All}
+use Rattle.std.specs.List.{AllByRecursion}
 use Rattle.dictionary.specs.Pairs.{among}
 use Rattle.entry.specs.declared.Entry.{Entry}
 use Rattle.entry.specs.Lists.{first}
@@ -25,7 +25,7 @@ use Rattle.inside.proofs.Opened.{order_opened, tree_other, rep_other, rep_new}
 pub same_bucket : (a b : Bucket) → a.rep ≡ b.rep → a.items ≡ b.items → a ≡ b
 same_bucket a b p q = λ i. record { rep = p i; items = q i }
 
-all_not : (m : ℕ) (xs ys : List ℕ) → All (Not m) (xs ++ ys) → All (Not m) xs × All (Not m) ys
+all_not : (m : ℕ) (xs ys : List ℕ) → AllByRecursion (Not m) (xs ++ ys) → AllByRecursion (Not m) xs × AllByRecursion (Not m) ys
 all_not m xs ys a = all_parts (Not m) xs ys a
 
 pub among_left : (x : ℕ) (xs ys : List ℕ) → among x xs ≡ true → among x (xs ++ ys) ≡ true
@@ -46,12 +46,12 @@ pub among_first : (x : ℕ) (xs : List ℕ) → among x (x ∷ xs) ≡ true
 among_first x xs = ap (λ b. b || among x xs) (eq-eqb x x refl)
 
 -- what holds of each number that is in a list holds of all of them
-pub all_in : (P : ℕ → Type 0) (xs : List ℕ) → ((x : ℕ) → among x xs ≡ true → P x) → All P xs
+pub all_in : (P : ℕ → Type 0) (xs : List ℕ) → ((x : ℕ) → among x xs ≡ true → P x) → AllByRecursion P xs
 all_in P [] h = tt
 all_in P (x ∷ xs) h = (h x (among_first x xs), all_in P xs (λ y m. h y (among_right y (x ∷ []) xs m)))
 
 -- t became u as m was opened behind n with the lowest key of n's upper half, and then v as n was halved
-module _ (t u v : Table) (p q : Pool) (n m : ℕ) (pre post : List ℕ) (fo : Forest t p) (cut : order_of t ≡ pre ++ n ∷ post) (before : All (Not n) pre) (behind : All (Not n) post)
+module _ (t u v : Table) (p q : Pool) (n m : ℕ) (pre post : List ℕ) (fo : Forest t p) (cut : order_of t ≡ pre ++ n ∷ post) (before : AllByRecursion (Not n) pre) (behind : AllByRecursion (Not n) post)
     (new : among m (order_of t) ≡ false) where
   abbrev all_items : List Entry
   all_items = items_of t p n
@@ -59,8 +59,8 @@ module _ (t u v : Table) (p q : Pool) (n m : ℕ) (pre post : List ℕ) (fo : Fo
   abbrev middle : ℕ
   middle = (first (drop (length all_items / 2) all_items)).key
 
-  not_m : All (Not m) (pre ++ n ∷ post)
-  not_m = subst (All (Not m)) cut (apart_all m (order_of t) new)
+  not_m : AllByRecursion (Not m) (pre ++ n ∷ post)
+  not_m = subst (AllByRecursion (Not m)) cut (apart_all m (order_of t) new)
 
   module _ (sh : Shows u (put_after n m (order_of t)) (with_at (rep_of t) m middle) (with_at (size_of t) m 0) (with_at (root_of t) m no_tree)) (ha : Halved u p v q n m) where
     -- what a number's bucket is before and after
@@ -78,7 +78,7 @@ module _ (t u v : Table) (p q : Pool) (n m : ℕ) (pre post : List ℕ) (fo : Fo
         (ap (λ g. g x) ha.kept.rep ∙ rep_other t u p n m middle pre post fo cut before new sh x b)
         (ap entries (ha.kept.others x o (a, (b, tt))) ∙ ap entries (tree_other t u p n m middle pre post fo cut before new sh x b))
 
-    kept_all : (xs : List ℕ) → ((x : ℕ) → among x xs ≡ true → among x (order_of u) ≡ true) → All (Not n) xs → All (Not m) xs → All (λ x. now_is x ≡ old x) xs
+    kept_all : (xs : List ℕ) → ((x : ℕ) → among x xs ≡ true → among x (order_of u) ≡ true) → AllByRecursion (Not n) xs → AllByRecursion (Not m) xs → AllByRecursion (λ x. now_is x ≡ old x) xs
     kept_all xs o a b = all_in (λ x. now_is x ≡ old x) xs (λ x h. kept_one x (o x h) (all_among (Not n) xs x a h) (all_among (Not m) xs x b h))
 
     in_pre : (x : ℕ) → among x pre ≡ true → among x (order_of u) ≡ true

@@ -5,4 +5,5 @@ pub mod Making
 pub mod Near
 pub mod Runs
 pub mod Spans
+pub mod Views
 pub mod Whole

@@ -6,7 +6,7 @@
 --   closed      what a shut index answers
 --   Does        what a call does: nothing where the index is shut, otherwise a step
 use Rattle.std.specs.Prelude.{◌≡◌, ℕ, ◌^◌, ◌<◌, ◌≤◌, Bool, true, false, List}
-use Rattle.std.specs.List.{AllByRecursion as All}
+use Rattle.std.specs.List.{AllByRecursion}
 use Rattle.dictionary.specs.Pairs.{Pairs}
 use Rattle.key.specs.Widths.{needed}
 use Rattle.entry.specs.declared.Entry.{Entry}
@@ -27,7 +27,7 @@ pub record Whole (w : ℕ) (f : Pairs) (room tally : ℕ) (i : Inside) : Type 0 
   pub trie : TrieSound w f i.table
   pub forest : Forest i.table i.pool
   pub buckets : BucketsSound w i.limit (row_of i.table i.pool)
-  pub notes : All (λ (e : Entry). e.note < 2 ^ 64) (flat (row_of i.table i.pool))
+  pub notes : AllByRecursion (λ (e : Entry). e.note < 2 ^ 64) (flat (row_of i.table i.pool))
   pub counted : i.count ≡ total (row_of i.table i.pool)
   pub small : i.limit ≤ 512
   pub fits : needed w i.limit ≤ room

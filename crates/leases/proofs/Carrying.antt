@@ -6,7 +6,7 @@
 --   who-nobody, who_short, who_found
 --   due_none, due_later, due_taken
 use Rattle.std.proofs.Common.{◌≡◌, ℕ, ◌+◌, ◌*◌, ◌/◌, ◌%◌, ◌^◌, ◌<◌, ◌≤◌, true, false, eqb, leb, List, [], ◌∷◌, length, None, Ok, Err, sym, refl, ap, ◌∙◌, subst, inl, inr, arith}
-use Rattle.std.specs.List.{AllByRecursion as All}
+use Rattle.std.specs.List.{AllByRecursion}
 use Rattle.std.proofs.lemmas.Bool.{le-leb, lt-leb, lt-ltb, le-ltb, eq-eqb, ne_eqb}
 use Rattle.std.proofs.lemmas.Bool.Decides.{nat_tests as tests}
 use Rattle.key.proofs.Logs.{most_within}
@@ -56,7 +56,7 @@ first_at : (xs : List Entry) → filled xs ≡ true → (filled (at (first xs).k
 first_at [] e = let z : ◌≡◌ {A = ℕ} 0 1 = cc in absurd (omega arith)
 first_at (x ∷ xs) e = let t : eqb x.key x.key ≡ true = eq-eqb x.key x.key refl in (rw t refl, rw t refl)
 
-first_small : (xs : List Entry) → All (λ (e : Entry). e.key < 2 ^ 48) xs → (x : Entry) → Found xs (first xs) x → x.key < 2 ^ 48
+first_small : (xs : List Entry) → AllByRecursion (λ (e : Entry). e.key < 2 ^ 48) xs → (x : Entry) → Found xs (first xs) x → x.key < 2 ^ 48
 first_small [] a x found = let z : ◌≡◌ {A = ℕ} 0 1 = cc in absurd (omega arith)
 first_small (y ∷ ys) a x found = let P : Entry → Type 0 = λ e. e.key < 2 ^ 48 in subst P found.same a.0
 

@@ -7,7 +7,7 @@
 --   none_sharing, clear   and none shares a station
 --   covering        the last of those that start at or below a station, if it reaches it, is the one that covers it
 use Rattle.std.proofs.Common.{◌≡◌, ℕ, ◌<◌, ◌≤◌, true, false, leb, ◌⊎◌, List, [], ◌∷◌, filter, refl, ap, ◌∙◌, inl, inr, arith}
-use Rattle.std.specs.List.{AllByRecursion as All}
+use Rattle.std.specs.List.{AllByRecursion}
 use Rattle.std.proofs.lemmas.Bool.{cases_Bool, leb-false, leb-true, le-leb, lt-leb, ne_eqb}
 use Rattle.entry.specs.declared.Entry.{Entry}
 use Rattle.entry.specs.Lists.{at, upto, filled, final}
@@ -27,7 +27,7 @@ sharing_upto f t (x ∷ xs) = elim (cases_Bool (leb x.key t)) [
 ]
 
 -- ---- the last of some leases
-pub ends_before : (xs : List Entry) (f : ℕ) → Spaced xs → end (final xs) < f → All (λ (x : Entry). end x < f) xs
+pub ends_before : (xs : List Entry) (f : ℕ) → Spaced xs → end (final xs) < f → AllByRecursion (λ (x : Entry). end x < f) xs
 ends_before [] f s h = tt
 ends_before (x ∷ []) f s h = (h, tt)
 ends_before (x ∷ y ∷ ys) f s h =
@@ -39,18 +39,18 @@ some_reach [] f e h = e
 some_reach (x ∷ []) f e h = rw (le-leb f (end x) h)
 some_reach (x ∷ y ∷ ys) f e h = elim (cases_Bool (leb f (end x))) [ inl d ↦ rw d refl | inr d ↦ rw d (some_reach (y ∷ ys) f refl h) ]
 
-one_reaches : (ys : List Entry) (s : ℕ) → Spaced ys → All (λ (x : Entry). x.key ≤ s) ys → filled ys ≡ true → s ≤ end (final ys) → reaching s ys ≡ final ys ∷ []
+one_reaches : (ys : List Entry) (s : ℕ) → Spaced ys → AllByRecursion (λ (x : Entry). x.key ≤ s) ys → filled ys ≡ true → s ≤ end (final ys) → reaching s ys ≡ final ys ∷ []
 one_reaches [] s sp a e h = let z : ◌≡◌ {A = ℕ} 0 1 = cc in absurd (omega arith)
 one_reaches (x ∷ []) s sp a e h = rw (le-leb s (end x) h)
 one_reaches (x ∷ y ∷ ys) s sp a e h =
     let short : end x < s = omega (arith, sp.1.0, a.1.0) in
     rw (lt-leb s (end x) short) (one_reaches (y ∷ ys) s sp.2 a.1 refl h)
 
-upto_keys : (s : ℕ) (xs : List Entry) → All (λ (x : Entry). x.key ≤ s) (upto s xs)
+upto_keys : (s : ℕ) (xs : List Entry) → AllByRecursion (λ (x : Entry). x.key ≤ s) (upto s xs)
 upto_keys s [] = tt
 upto_keys s (x ∷ xs) = elim (cases_Bool (leb x.key s)) [ inl e ↦ rw e (leb-true x.key s e, upto_keys s xs) | inr e ↦ rw e (upto_keys s xs) ]
 
-clear_upto : (xs : List Entry) (f t : ℕ) → All (λ (x : Entry). end x < f) (upto t xs) → Clear xs f t
+clear_upto : (xs : List Entry) (f t : ℕ) → AllByRecursion (λ (x : Entry). end x < f) (upto t xs) → Clear xs f t
 clear_upto [] f t a = tt
 clear_upto (x ∷ xs) f t a = elim (cases_Bool (leb x.key t)) [
   | inl e ↦ let b = rw e at a in (λ _. b.0, clear_upto xs f t b.1)
@@ -68,14 +68,14 @@ module _ (xs : List Entry) (s : Spaced xs) where
   pub reached : (f t : ℕ) → filled (upto t xs) ≡ true → f ≤ end (final (upto t xs)) → filled (sharing f t xs) ≡ true
   reached f t e h = ap filled (sharing_upto f t xs) ∙ some_reach (upto t xs) f e h
 
-  pub not_reached : (f t : ℕ) → Free xs f t → All (λ (x : Entry). end x < f) (upto t xs)
+  pub not_reached : (f t : ℕ) → Free xs f t → AllByRecursion (λ (x : Entry). end x < f) (upto t xs)
   not_reached f t (inl e) = rw e tt
   not_reached f t (inr h) = ends_before (upto t xs) f (spaced_upto xs t s) h
 
-  pub none_sharing : (f t : ℕ) → All (λ (x : Entry). end x < f) (upto t xs) → filled (sharing f t xs) ≡ false
+  pub none_sharing : (f t : ℕ) → AllByRecursion (λ (x : Entry). end x < f) (upto t xs) → filled (sharing f t xs) ≡ false
   none_sharing f t a = ap filled (sharing_upto f t xs ∙ kept_none (λ x. leb f (end x)) (λ (x : Entry). end x < f) (λ x h. lt-leb f (end x) h) (upto t xs) a)
 
-  pub clear : (f t : ℕ) → All (λ (x : Entry). end x < f) (upto t xs) → Clear xs f t
+  pub clear : (f t : ℕ) → AllByRecursion (λ (x : Entry). end x < f) (upto t xs) → Clear xs f t
   clear f t a = clear_upto xs f t a
 
   pub covering : (t : ℕ) → filled (upto t xs) ≡ true → t ≤ end (final (upto t xs)) → sharing t t xs ≡ final (upto t xs) ∷ []

@@ -5,7 +5,7 @@
 --   spaced_without   one taken out
 --   none_shared      no station lies in two
 use Rattle.std.proofs.Common.{◌≡◌, ℕ, zero, suc, ◌<◌, ◌≤◌, Bool, false, ltb, List, [], ◌∷◌, ◌++◌, length, get_or, filter, inl, inr, ⊎_elim, arith}
-use Rattle.std.specs.List.{AllByRecursion as All}
+use Rattle.std.specs.List.{AllByRecursion}
 use Rattle.std.proofs.ByRecursion.{all_kept_by, All-append, All-weaker, All-get_or}
 use Rattle.std.proofs.lemmas.Bool.{cases_Bool, cases_order, cases_lt, ltb-true, ltb-false, le-ltb}
 use Rattle.entry.specs.declared.Entry.{Entry}
@@ -20,25 +20,25 @@ spaced_kept p (x ∷ xs) s = elim (cases_Bool (p x)) [
   | inr e ↦ rw e (spaced_kept p xs s.2)
 ]
 
-spaced_join : (xs ys : List Entry) (e : Entry) → Spaced xs → All (λ (x : Entry). end x < e.key) xs → Noted e → All (λ (y : Entry). end e < y.key) ys → Spaced ys → Spaced (xs ++ (e ∷ ys))
+spaced_join : (xs ys : List Entry) (e : Entry) → Spaced xs → AllByRecursion (λ (x : Entry). end x < e.key) xs → Noted e → AllByRecursion (λ (y : Entry). end e < y.key) ys → Spaced ys → Spaced (xs ++ (e ∷ ys))
 spaced_join [] ys e sx ax n ay sy = (n, ay, sy)
 spaced_join (x ∷ xs) ys e sx ax n ay sy =
-    let up : All (λ (y : Entry). end x < y.key) ys = All-weaker (λ (y : Entry). end e < y.key) (λ (y : Entry). end x < y.key) (λ y h. omega (arith, h, ax.0, n.rises)) ys ay in
+    let up : AllByRecursion (λ (y : Entry). end x < y.key) ys = All-weaker (λ (y : Entry). end e < y.key) (λ (y : Entry). end x < y.key) (λ y h. omega (arith, h, ax.0, n.rises)) ys ay in
     (sx.0, All-append (λ (y : Entry). end x < y.key) xs (e ∷ ys) sx.1 (ax.0, up), spaced_join xs ys e sx.2 ax.1 n ay sy)
 
 -- every lease that starts at or below t ends before f
 abbrev pub Clear : List Entry → ℕ → ℕ → Type 0
-Clear xs f t = All (λ (x : Entry). x.key ≤ t → end x < f) xs
+Clear xs f t = AllByRecursion (λ (x : Entry). x.key ≤ t → end x < f) xs
 
 -- what stands below the new lease ends before it, what stands above it starts after it
-low_side : (xs : List Entry) (f t : ℕ) → f ≤ t → Clear xs f t → All (λ (x : Entry). end x < f) (below f xs)
+low_side : (xs : List Entry) (f t : ℕ) → f ≤ t → Clear xs f t → AllByRecursion (λ (x : Entry). end x < f) (below f xs)
 low_side [] f t h a = tt
 low_side (x ∷ xs) f t h a = elim (cases_Bool (ltb x.key f)) [
   | inl e ↦ rw e (a.0 (omega (arith, ltb-true x.key f e, h)), low_side xs f t h a.1)
   | inr e ↦ rw e (low_side xs f t h a.1)
 ]
 
-high_side : (xs : List Entry) (f t : ℕ) → Spaced xs → Clear xs f t → All (λ (x : Entry). t < x.key) (above f xs)
+high_side : (xs : List Entry) (f t : ℕ) → Spaced xs → Clear xs f t → AllByRecursion (λ (x : Entry). t < x.key) (above f xs)
 high_side [] f t s a = tt
 high_side (x ∷ xs) f t s a = elim (cases_Bool (ltb f x.key)) [
   | inl e ↦ rw e (
@@ -53,10 +53,10 @@ spaced_put xs e s n a =
     spaced_join (below e.key xs) (above e.key xs) e (spaced_kept (λ x. ltb x.key e.key) xs s) (low_side xs e.key (end e) n.rises a) n
     (high_side xs e.key (end e) s a) (spaced_kept (λ x. ltb e.key x.key) xs s)
 
-all_without : (P : Entry → Type 0) (k : ℕ) (xs : List Entry) → All P xs → All P (without k xs)
+all_without : (P : Entry → Type 0) (k : ℕ) (xs : List Entry) → AllByRecursion P xs → AllByRecursion P (without k xs)
 all_without P k xs a = All-append P (below k xs) (above k xs) (all_kept_by (λ x. ltb x.key k) P xs a) (all_kept_by (λ x. ltb k x.key) P xs a)
 
-starts_after : (x : Entry) (k : ℕ) (xs : List Entry) → Noted x → k ≤ x.key → All (λ (y : Entry). end x < y.key) xs → Over k xs
+starts_after : (x : Entry) (k : ℕ) (xs : List Entry) → Noted x → k ≤ x.key → AllByRecursion (λ (y : Entry). end x < y.key) xs → Over k xs
 starts_after x k xs n h a = All-weaker (λ (y : Entry). end x < y.key) (λ (y : Entry). k < y.key) (λ y l. omega (arith, l, h, n.rises)) xs a
 
 pub spaced_without : (k : ℕ) (xs : List Entry) → Spaced xs → Spaced (without k xs)

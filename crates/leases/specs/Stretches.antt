@@ -11,7 +11,7 @@
 --   NoSharedStation     no station lies in two of the leases
 --   Leased              a lease index that is not shut
 use Rattle.std.specs.Prelude.{◌≡◌, ℕ, ◌+◌, ◌*◌, ◌/◌, ◌%◌, ◌^◌, ◌<◌, ◌≤◌, Bool, false, ◌&&◌, List, [], ◌∷◌, length, filter, nat_le, slice_index_or}
-use Rattle.std.specs.List.{AllByRecursion as All}
+use Rattle.std.specs.List.{AllByRecursion}
 use Rattle.entry.specs.declared.Entry.{Entry}
 use Rattle.entry.specs.Lists.{blank}
 use Rattle.ordered.specs.Meaning.{View}
@@ -33,7 +33,7 @@ pub record Noted (e : Entry) : Type 0 where
 
 abbrev pub Spaced : List Entry → Type 0
 Spaced [] = Unit {0}
-Spaced (x ∷ xs) = Noted x × All (λ (y : Entry). end x < y.key) xs × Spaced xs
+Spaced (x ∷ xs) = Noted x × AllByRecursion (λ (y : Entry). end x < y.key) xs × Spaced xs
 
 abbrev pub shares : ℕ → ℕ → Entry → Bool
 shares f t x = nat_le x.key t && nat_le f (end x)

@@ -5,7 +5,7 @@
 --   holder_splits              the order cut at the bucket of a key
 --   chosen_holds               from the deepest level and its links a search chooses the bucket of the key
 use Rattle.std.proofs.Common.{◌≡◌, ℕ, ◌+◌, ◌-◌, ◌/◌, ◌%◌, ◌^◌, ◌<◌, ◌≤◌, Bool, true, false, eqb, leb, ◌⊎◌, List, [], ◌∷◌, ◌++◌, map, Some, filter, sym, refl, ap, ◌∙◌, subst, inl, inr, div-one, arith}
-use Rattle.std.specs.List.{AllByRecursion as All}
+use Rattle.std.specs.List.{AllByRecursion}
 use Rattle.std.proofs.lemmas.List.{append-nil}
 use Rattle.std.proofs.lemmas.Nat.{shr-shr}
 use Rattle.std.proofs.lemmas.List.Elements.{filter-append}
@@ -28,17 +28,17 @@ pub record First (t : ℕ → Bool) (order : List ℕ) (x : ℕ) : Type 0 where
   pub post : List ℕ
   pub is : order ≡ pre ++ x ∷ post
   pub passes : t x ≡ true
-  pub none : All (λ y. t y ≡ false) pre
+  pub none : AllByRecursion (λ y. t y ≡ false) pre
 
 pub record Last (t : ℕ → Bool) (order : List ℕ) (x : ℕ) : Type 0 where
   pub pre : List ℕ
   pub post : List ℕ
   pub is : order ≡ pre ++ x ∷ post
   pub passes : t x ≡ true
-  pub none : All (λ y. t y ≡ false) post
+  pub none : AllByRecursion (λ y. t y ≡ false) post
 
 module _ (t : ℕ → Bool) where
-  none_kept : (xs : List ℕ) → filter t xs ≡ [] → All (λ y. t y ≡ false) xs
+  none_kept : (xs : List ℕ) → filter t xs ≡ [] → AllByRecursion (λ y. t y ≡ false) xs
   none_kept [] e = tt
   none_kept (x ∷ xs) e = elim (cases_Bool (t x)) [
     | inl u ↦ absurd (let c = cond-true (t x) (x ∷ filter t xs) (filter t xs) u in let z : ◌≡◌ {A = ℕ} 0 1 = cc in omega arith)
@@ -91,11 +91,11 @@ module _ (t : ℕ → Bool) where
 
 -- ---- the holder of a key, by a cut of the order
 module _ (rep : ℕ → ℕ) (k : ℕ) where
-  keeps_none : (xs : List ℕ) → All (λ x. k < rep x) xs → filter (λ i. leb (rep i) k) xs ≡ []
+  keeps_none : (xs : List ℕ) → AllByRecursion (λ x. k < rep x) xs → filter (λ i. leb (rep i) k) xs ≡ []
   keeps_none [] a = refl
   keeps_none (x ∷ xs) a = cond-false _ _ _ (lt-leb (rep x) k a.0) ∙ keeps_none xs a.1
 
-  keeps_all : (xs : List ℕ) → All (λ x. rep x ≤ k) xs → filter (λ i. leb (rep i) k) xs ≡ xs
+  keeps_all : (xs : List ℕ) → AllByRecursion (λ x. rep x ≤ k) xs → filter (λ i. leb (rep i) k) xs ≡ xs
   keeps_all [] a = refl
   keeps_all (x ∷ xs) a = cond-true _ _ _ (le-leb (rep x) k a.0) ∙ ap (λ l. x ∷ l) (keeps_all xs a.1)
 
@@ -103,14 +103,14 @@ module _ (rep : ℕ → ℕ) (k : ℕ) where
   lastly_append [] x = refl
   lastly_append (z ∷ zs) x = last_append z zs x []
 
-  pub holder_at : (pre : List ℕ) (x : ℕ) (post : List ℕ) → rep x ≤ k → All (λ y. k < rep y) post → holder rep (pre ++ x ∷ post) k ≡ x
+  pub holder_at : (pre : List ℕ) (x : ℕ) (post : List ℕ) → rep x ≤ k → AllByRecursion (λ y. k < rep y) post → holder rep (pre ++ x ∷ post) k ≡ x
   unfolding holder
   holder_at pre x post h a =
       let t : ℕ → Bool = λ i. leb (rep i) k in
       let c : filter t (x ∷ post) ≡ x ∷ [] = cond-true _ _ _ (le-leb (rep x) k h) ∙ ap (λ l. x ∷ l) (keeps_none post a) in
       ap lastly (filter-append t pre (x ∷ post) ∙ ap (λ l. filter t pre ++ l) c) ∙ lastly_append (filter t pre) x
 
-  holder_before : (pre post : List ℕ) → All (λ x. rep x ≤ k) pre → All (λ y. k < rep y) post → holder rep (pre ++ post) k ≡ lastly pre
+  holder_before : (pre post : List ℕ) → AllByRecursion (λ x. rep x ≤ k) pre → AllByRecursion (λ y. k < rep y) post → holder rep (pre ++ post) k ≡ lastly pre
   unfolding holder
   holder_before pre post a b =
       let t : ℕ → Bool = λ i. leb (rep i) k in
@@ -204,8 +204,8 @@ module _ (w : ℕ) (rep : ℕ → ℕ) (order : List ℕ) (k : ℕ) (o : Ordered
       let some = any_at (under w k j) rep pre x post (eq-eqb _ _ e) in
       true≢false (sym (subst (λ l. any (under w k j) (map rep l) ≡ true) (sym is) some) ∙ sym (held_present w rep order k kw o.fits j h) ∙ t)
 
-  small : (pre : List ℕ) (x : ℕ) (post : List ℕ) → order ≡ pre ++ x ∷ post → All (λ y. rep y < 2 ^ w) (pre ++ x ∷ post)
-  small pre x post is = subst (All (λ y. rep y < 2 ^ w)) is o.fits
+  small : (pre : List ℕ) (x : ℕ) (post : List ℕ) → order ≡ pre ++ x ∷ post → AllByRecursion (λ y. rep y < 2 ^ w) (pre ++ x ∷ post)
+  small pre x post is = subst (AllByRecursion (λ y. rep y < 2 ^ w)) is o.fits
 
   rises : (pre : List ℕ) (x : ℕ) (post : List ℕ) → order ≡ pre ++ x ∷ post → Rising rep (pre ++ x ∷ post)
   rises pre x post is = subst (Rising rep) is o.rises

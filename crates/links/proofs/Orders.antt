@@ -9,7 +9,7 @@
 --   Cut, cut, cut_at                 an order cut at a bucket in it, or at a place
 --   cut_put, cut_without             with a bucket put in behind that one, and without that one
 use Rattle.std.proofs.Common.{◌≡◌, ℕ, zero, suc, ◌<◌, Bool, true, false, not, ◌||◌, eqb, List, [], ◌∷◌, ◌++◌, length, get_or, filter, sym, refl, ap, ◌∙◌, subst, inl, inr, arith}
-use Rattle.std.specs.List.{AllByRecursion as All}
+use Rattle.std.specs.List.{AllByRecursion}
 use Rattle.std.proofs.lemmas.List.Elements.{filter-append}
 use Rattle.std.proofs.ByRecursion.{all_kept_by}
 use Rattle.std.proofs.lemmas.Bool.{cases_eq, eq-eqb, ne_eqb, eqb-false, cond-true, cond-false, cond_both, or_parts, and_parts, not-true, not_from_false, not_from_true, false≢true}
@@ -25,30 +25,30 @@ with_same f i v n e = cond-true (eqb n i) v (f n) (eq-eqb n i e)
 pub with_other : (f : ℕ → ℕ) (i v n : ℕ) → Not i n → with_at f i v n ≡ f n
 with_other f i v n e = cond-false (eqb n i) v (f n) (ne_eqb n i e)
 
-pub all_both : (P Q R : ℕ → Type 0) → ((x : ℕ) → P x → Q x → R x) → (xs : List ℕ) → All P xs → All Q xs → All R xs
+pub all_both : (P Q R : ℕ → Type 0) → ((x : ℕ) → P x → Q x → R x) → (xs : List ℕ) → AllByRecursion P xs → AllByRecursion Q xs → AllByRecursion R xs
 all_both P Q R g [] a b = tt
 all_both P Q R g (x ∷ xs) a b = (g x a.0 b.0, all_both P Q R g xs a.1 b.1)
 
 pub further : (a x : ℕ) (ys : List ℕ) → Not x a → among a (x ∷ ys) ≡ true → among a ys ≡ true
 further a x ys e t = sym (ap (λ b. b || among a ys) (ne_eqb a x e)) ∙ t
 
-pub all_among : (P : ℕ → Type 0) (xs : List ℕ) (a : ℕ) → All P xs → among a xs ≡ true → P a
+pub all_among : (P : ℕ → Type 0) (xs : List ℕ) (a : ℕ) → AllByRecursion P xs → among a xs ≡ true → P a
 all_among P [] a all t = absurd (false≢true t)
 all_among P (x ∷ xs) a all t = elim (cases_eq a x) [
   | inl e ↦ subst P (sym e) all.0
   | inr e ↦ all_among P xs a all.1 (further a x xs e t)
 ]
 
-pub apart_all : (x : ℕ) (xs : List ℕ) → among x xs ≡ false → All (Not x) xs
+pub apart_all : (x : ℕ) (xs : List ℕ) → among x xs ≡ false → AllByRecursion (Not x) xs
 apart_all x [] t = tt
 apart_all x (y ∷ ys) t =
     let p = or_parts (eqb x y) (among x ys) t in
     ((λ e. eqb-false x y p.0 (sym e)), apart_all x ys p.1)
 
-pub apart_parts : (x : ℕ) (xs : List ℕ) → apart (x ∷ xs) ≡ true → All (Not x) xs × (apart xs ≡ true)
+pub apart_parts : (x : ℕ) (xs : List ℕ) → apart (x ∷ xs) ≡ true → AllByRecursion (Not x) xs × (apart xs ≡ true)
 apart_parts x xs t = let p = and_parts (not (among x xs)) (apart xs) t in (apart_all x xs (not-true _ p.0), p.1)
 
-pub all_parts : (P : ℕ → Type 0) (xs ys : List ℕ) → All P (xs ++ ys) → All P xs × All P ys
+pub all_parts : (P : ℕ → Type 0) (xs ys : List ℕ) → AllByRecursion P (xs ++ ys) → AllByRecursion P xs × AllByRecursion P ys
 all_parts P [] ys a = (tt, a)
 all_parts P (x ∷ xs) ys a = let r = all_parts P xs ys a.1 in ((a.0, r.0), r.1)
 
@@ -56,7 +56,7 @@ pub rising_parts : (rep : ℕ → ℕ) (xs ys : List ℕ) → Rising rep (xs ++ 
 rising_parts rep [] ys a = (tt, a)
 rising_parts rep (x ∷ xs) ys a = let r = rising_parts rep xs ys a.1 in (((all_parts _ xs ys a.0).0, r.0), r.1)
 
-pub rising_below : (rep : ℕ → ℕ) (xs : List ℕ) (i : ℕ) (ys : List ℕ) → Rising rep (xs ++ i ∷ ys) → All (λ x. rep x < rep i) xs
+pub rising_below : (rep : ℕ → ℕ) (xs : List ℕ) (i : ℕ) (ys : List ℕ) → Rising rep (xs ++ i ∷ ys) → AllByRecursion (λ x. rep x < rep i) xs
 rising_below rep [] i ys a = tt
 rising_below rep (x ∷ xs) i ys a = ((all_parts (λ y. rep x < rep y) xs (i ∷ ys) a.0).1.0, rising_below rep xs i ys a.1)
 
@@ -91,17 +91,17 @@ cut_at (x ∷ xs) (suc n) h =
     (record { pre = x ∷ m.0.pre; post = m.0.post; is = ap (λ l. x ∷ l) m.0.is }, ap suc m.1)
 
 -- an order with n put in behind a, cut at a
-pub cut_put : (a n : ℕ) (pre post : List ℕ) → All (Not a) pre → put_after a n (pre ++ a ∷ post) ≡ pre ++ a ∷ n ∷ post
+pub cut_put : (a n : ℕ) (pre post : List ℕ) → AllByRecursion (Not a) pre → put_after a n (pre ++ a ∷ post) ≡ pre ++ a ∷ n ∷ post
 cut_put a n [] post s = cond-true (eqb a a) (a ∷ n ∷ post) (a ∷ put_after a n post) (eq-eqb a a refl)
 cut_put a n (x ∷ xs) post s =
     cond-false (eqb x a) (x ∷ n ∷ (xs ++ a ∷ post)) (x ∷ put_after a n (xs ++ a ∷ post)) (ne_eqb x a s.0) ∙ ap (λ l. x ∷ l) (cut_put a n xs post s.1)
 
 module _ (rep : ℕ → ℕ) (i : ℕ) where
-  keeps_below : (xs : List ℕ) → All (λ x. rep x < rep i) xs → without i xs ≡ xs
+  keeps_below : (xs : List ℕ) → AllByRecursion (λ x. rep x < rep i) xs → without i xs ≡ xs
   keeps_below [] a = refl
   keeps_below (x ∷ xs) a = cond-true _ _ _ (not_from_false _ (ne_eqb x i (λ e. omega (arith, ap rep e, a.0)))) ∙ ap (λ l. x ∷ l) (keeps_below xs a.1)
 
-  keeps_above : (xs : List ℕ) → All (λ x. rep i < rep x) xs → without i xs ≡ xs
+  keeps_above : (xs : List ℕ) → AllByRecursion (λ x. rep i < rep x) xs → without i xs ≡ xs
   keeps_above [] a = refl
   keeps_above (x ∷ xs) a = cond-true _ _ _ (not_from_false _ (ne_eqb x i (λ e. omega (arith, ap rep e, a.0)))) ∙ ap (λ l. x ∷ l) (keeps_above xs a.1)
 

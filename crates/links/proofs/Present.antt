@@ -6,7 +6,7 @@
 --   present_closed, links_closed   with a level, each one from the root down to it
 --   frames_present    the frames of a search, on the representatives alone
 use Rattle.std.proofs.Common.{◌≡◌, ℕ, ◌+◌, ◌^◌, ◌<◌, ◌≤◌, true, not, ◌||◌, List, [], ◌∷◌, map, is_some, sym, refl, ap, ◌∙◌, inl, inr, arith}
-use Rattle.std.specs.List.{AllByRecursion as All}
+use Rattle.std.specs.List.{AllByRecursion}
 use Rattle.std.proofs.lemmas.Bool.{cases_Bool, eq-eqb, eqb-true, or_left, or_right, or_cases, false≢true}
 use Rattle.levels.specs.Nodes.{node_at, under, any, present}
 use Rattle.levels.specs.Counts.{gets, searching}
@@ -18,7 +18,7 @@ use Rattle.links.specs.Links.{lies, under_node, links}
 use Rattle.links.proofs.Rows.{empty, outermost_some}
 use Rattle.links.proofs.Nodes.{lies_node, node_up}
 
-pub all_map : (P : ℕ → Type 0) (rep : ℕ → ℕ) (xs : List ℕ) → All (λ x. P (rep x)) xs → All P (map rep xs)
+pub all_map : (P : ℕ → Type 0) (rep : ℕ → ℕ) (xs : List ℕ) → AllByRecursion (λ x. P (rep x)) xs → AllByRecursion P (map rep xs)
 all_map P rep [] a = tt
 all_map P rep (x ∷ xs) a = (a.0, all_map P rep xs a.1)
 
@@ -32,7 +32,7 @@ unfolding links
 links_some w rep order n = outermost_some (under_node w rep n order) ∙ filled_any w rep order n
 
 -- ---- on representatives
-pub lies_present : (w k j : ℕ) (rs : List ℕ) → k < 2 ^ w → j ≤ w → All (λ r. r < 2 ^ w) rs → any (λ r. lies w r (node_at w k j)) rs ≡ present w rs k j
+pub lies_present : (w k j : ℕ) (rs : List ℕ) → k < 2 ^ w → j ≤ w → AllByRecursion (λ r. r < 2 ^ w) rs → any (λ r. lies w r (node_at w k j)) rs ≡ present w rs k j
 lies_present w k j [] kw jw a = refl
 lies_present w k j (r ∷ rs) kw jw a =
     ap (λ b. b || any (λ r. lies w r (node_at w k j)) rs) (lies_node w r k j a.0 kw jw) ∙ ap (λ b. under w k j r || b) (lies_present w k j rs kw jw a.1)
@@ -49,7 +49,7 @@ pub present_root : (w k r : ℕ) (rs : List ℕ) → k < 2 ^ w → r < 2 ^ w →
 present_root w k r rs kw rw' = or_left (under w k 0 r) (present w rs k 0) (eq-eqb _ _ (node_root w r rw' ∙ sym (node_root w k kw)))
 
 -- ---- on an order
-module _ (w : ℕ) (rep : ℕ → ℕ) (order : List ℕ) (k : ℕ) (kw : k < 2 ^ w) (a : All (λ x. rep x < 2 ^ w) order) where
+module _ (w : ℕ) (rep : ℕ → ℕ) (order : List ℕ) (k : ℕ) (kw : k < 2 ^ w) (a : AllByRecursion (λ x. rep x < 2 ^ w) order) where
   pub held_present : (j : ℕ) → j ≤ w → held (links w rep order) w k j ≡ present w (map rep order) k j
   held_present j jw = links_some w rep order (node_at w k j) ∙ lies_present w k j (map rep order) kw jw (all_map (λ r. r < 2 ^ w) rep order a)
 
@@ -59,6 +59,6 @@ module _ (w : ℕ) (rep : ℕ → ℕ) (order : List ℕ) (k : ℕ) (kw : k < 2 
   pub frames_present : 1 + gets (held (links w rep order) w k) 0 (w + 1) ≡ searching w (map rep order) k
   frames_present = ap (λ n. 1 + n) (gets_same (held (links w rep order) w k) (present w (map rep order) k) w held_present)
 
-pub links_root : (w : ℕ) (rep : ℕ → ℕ) (order : List ℕ) (k : ℕ) → k < 2 ^ w → All (λ x. rep x < 2 ^ w) order → ZeroFirst rep order → held (links w rep order) w k 0 ≡ true
+pub links_root : (w : ℕ) (rep : ℕ → ℕ) (order : List ℕ) (k : ℕ) → k < 2 ^ w → AllByRecursion (λ x. rep x < 2 ^ w) order → ZeroFirst rep order → held (links w rep order) w k 0 ≡ true
 links_root w rep [] k kw a z = absurd z
 links_root w rep (x ∷ xs) k kw a z = held_present w rep (x ∷ xs) k kw a 0 (omega arith) ∙ present_root w k (rep x) (map rep xs) kw a.0

@@ -4,7 +4,7 @@
 --   held_count        a dictionary with the pairs of an order has just that many
 --   room_left         while some node of the order is not held there is room for it
 use Rattle.std.proofs.Common.{◌≡◌, ℕ, zero, suc, ◌+◌, ◌*◌, ◌^◌, ◌<◌, ◌≤◌, true, false, cond, not, ◌||◌, eqb, List, [], ◌∷◌, ◌++◌, map, length, is_some, None, sym, refl, ap, ◌∙◌, subst, inl, inr, mul-suc, arith, length-append}
-use Rattle.std.specs.List.{AllByRecursion as All}
+use Rattle.std.specs.List.{AllByRecursion}
 use Rattle.std.proofs.lemmas.List.{length-map}
 use Rattle.std.proofs.lemmas.Bool.{cases_eq, cases_Bool, cond_both, eq-eqb, ne_eqb, eqb-true, or_left, or_right, or_cases, or_from, and_from, not_from_false, false≢true, true≢false}
 use Rattle.dictionary.specs.Pairs.{Pairs, among, apart}
@@ -79,7 +79,7 @@ own_apart w rs r (suc j) rw' h =
     ]
 
 -- a node of r is one of its own or one of rs
-own_or_other : (w : ℕ) (rs : List ℕ) (r j n : ℕ) → r < 2 ^ w → All (λ s. s < 2 ^ w) rs → j ≤ w + 1 → passed w r j n ≡ true → any (λ s. lies w s n) rs ≡ false → among n (own_nodes w rs r j) ≡ true
+own_or_other : (w : ℕ) (rs : List ℕ) (r j n : ℕ) → r < 2 ^ w → AllByRecursion (λ s. s < 2 ^ w) rs → j ≤ w + 1 → passed w r j n ≡ true → any (λ s. lies w s n) rs ≡ false → among n (own_nodes w rs r j) ≡ true
 unfolding own_nodes
 own_or_other w rs r zero n rw' a h t none = absurd (false≢true t)
 own_or_other w rs r (suc j) n rw' a h t none =
@@ -98,7 +98,7 @@ own_or_other w rs r (suc j) n rw' a h t none =
     ]
 
 -- an own node of r lies under none of rs
-own_alone : (w : ℕ) (rs : List ℕ) (r j n : ℕ) → r < 2 ^ w → All (λ s. s < 2 ^ w) rs → j ≤ w + 1 → among n (own_nodes w rs r j) ≡ true → any (λ s. lies w s n) rs ≡ false
+own_alone : (w : ℕ) (rs : List ℕ) (r j n : ℕ) → r < 2 ^ w → AllByRecursion (λ s. s < 2 ^ w) rs → j ≤ w + 1 → among n (own_nodes w rs r j) ≡ true → any (λ s. lies w s n) rs ≡ false
 unfolding own_nodes
 own_alone w rs r zero n rw' a h t = absurd (false≢true t)
 own_alone w rs r (suc j) n rw' a h t =
@@ -113,7 +113,7 @@ own_alone w rs r (suc j) n rw' a h t =
     ]
 
 module _ (w : ℕ) where
-  all_under : (rs : List ℕ) (n : ℕ) → All (λ r. r < 2 ^ w) rs → among n (all_nodes w rs) ≡ any (λ r. lies w r n) rs
+  all_under : (rs : List ℕ) (n : ℕ) → AllByRecursion (λ r. r < 2 ^ w) rs → among n (all_nodes w rs) ≡ any (λ r. lies w r n) rs
   unfolding all_nodes lies
   all_under [] n a = refl
   all_under (r ∷ rs) n a =
@@ -130,7 +130,7 @@ module _ (w : ℕ) where
         ]
       ]
 
-  all_apart : (rs : List ℕ) → All (λ r. r < 2 ^ w) rs → apart (all_nodes w rs) ≡ true
+  all_apart : (rs : List ℕ) → AllByRecursion (λ r. r < 2 ^ w) rs → apart (all_nodes w rs) ≡ true
   unfolding all_nodes
   all_apart [] a = refl
   all_apart (r ∷ rs) a =
@@ -139,7 +139,7 @@ module _ (w : ℕ) where
 
 -- ---- a dictionary's nodes
 module _ (w : ℕ) (rep : ℕ → ℕ) (order : List ℕ) (o : Ordered w rep order) (nodes : List ℕ) (f : Pairs) (once : apart nodes ≡ true) (held : (n : ℕ) → is_some (f n) ≡ among n nodes) where
-  fits : All (λ r. r < 2 ^ w) (map rep order)
+  fits : AllByRecursion (λ r. r < 2 ^ w) (map rep order)
   fits = all_map (λ r. r < 2 ^ w) rep order o.fits
 
   into : (n : ℕ) → is_some (links w rep order n) ≡ among n (all_nodes w (map rep order))

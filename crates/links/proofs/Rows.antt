@@ -6,7 +6,7 @@
 --   join_rows, join_test      i comes in: its pair, and whether the pair alters
 --   part_rows, part_test      i goes: the pair left, and whether it alters
 use Rattle.std.proofs.Common.{◌≡◌, ℕ, ◌<◌, Bool, true, false, not, ◌||◌, eqb, List, [], ◌∷◌, ◌++◌, is_some, Some, refl, ap, arith}
-use Rattle.std.specs.List.{AllByRecursion as All}
+use Rattle.std.specs.List.{AllByRecursion}
 use Rattle.std.proofs.lemmas.List.{append-nil}
 use Rattle.std.proofs.lemmas.Bool.{eq-eqb, ne_eqb, or_right, or_left, or_from, lt-ltb, le-ltb}
 use Rattle.links.specs.Orders.{last_from}
@@ -20,7 +20,7 @@ pub last_append : (x : ℕ) (xs : List ℕ) (y : ℕ) (ys : List ℕ) → last_f
 last_append x [] y ys = refl
 last_append x (z ∷ xs) y ys = last_append z xs y ys
 
-pub all_last : (P : ℕ → Type 0) (x : ℕ) (xs : List ℕ) → P x → All P xs → P (last_from x xs)
+pub all_last : (P : ℕ → Type 0) (x : ℕ) (xs : List ℕ) → P x → AllByRecursion P xs → P (last_from x xs)
 all_last P x [] p all = p
 all_last P x (y ∷ ys) p all = all_last P y ys all.0 all.1
 
@@ -29,7 +29,7 @@ outermost_some [] = refl
 outermost_some (x ∷ xs) = refl
 
 module _ (rep : ℕ → ℕ) (i : ℕ) where
-  pub join_rows : (xs ys : List ℕ) → All (λ x. rep x < rep i) xs → All (λ x. rep i < rep x) ys → outermost (xs ++ i ∷ ys) ≡ joined rep i (outermost (xs ++ ys))
+  pub join_rows : (xs ys : List ℕ) → AllByRecursion (λ x. rep x < rep i) xs → AllByRecursion (λ x. rep i < rep x) ys → outermost (xs ++ i ∷ ys) ≡ joined rep i (outermost (xs ++ ys))
   join_rows [] [] a b = refl
   join_rows [] (y ∷ ys) a b =
       let p = lt-ltb (rep i) (rep y) b.0 in
@@ -47,7 +47,7 @@ module _ (rep : ℕ → ℕ) (i : ℕ) where
       let q = le-ltb (rep (last_from y ys)) (rep i) (omega arith) in
       rw (last_append x xs i (y ∷ ys), last_append x xs y ys, p, q) refl
 
-  pub join_test : (xs ys : List ℕ) → All (λ x. rep x < rep i) xs → All (λ x. rep i < rep x) ys → joins rep i (outermost (xs ++ ys)) ≡ (empty xs || empty ys)
+  pub join_test : (xs ys : List ℕ) → AllByRecursion (λ x. rep x < rep i) xs → AllByRecursion (λ x. rep i < rep x) ys → joins rep i (outermost (xs ++ ys)) ≡ (empty xs || empty ys)
   join_test [] [] a b = refl
   join_test [] (y ∷ ys) a b = or_left _ _ (lt-ltb (rep i) (rep y) b.0)
   join_test (x ∷ xs) [] a b =
@@ -70,7 +70,7 @@ module _ (rep : ℕ → ℕ) (i : ℕ) where
   itself = eq-eqb i i refl
 
   -- next and prev are the neighbours in the row
-  pub part_rows : (next prev : ℕ) (xs ys : List ℕ) → All (λ x. rep x < rep i) xs → All (λ x. rep i < rep x) ys →
+  pub part_rows : (next prev : ℕ) (xs ys : List ℕ) → AllByRecursion (λ x. rep x < rep i) xs → AllByRecursion (λ x. rep i < rep x) ys →
       ((y : ℕ) (zs : List ℕ) → ys ≡ y ∷ zs → y ≡ next) → ((x : ℕ) (zs : List ℕ) → xs ≡ x ∷ zs → last_from x zs ≡ prev) →
       outermost (xs ++ ys) ≡ parted next prev i (outermost (xs ++ i ∷ ys))
   part_rows next prev [] [] a b n p = rw itself refl
@@ -85,7 +85,7 @@ module _ (rep : ℕ → ℕ) (i : ℕ) where
       let t = above_other (last_from y ys) (all_last (λ x. rep i < rep x) y ys b.0 b.1) in
       rw (last_append x xs i (y ∷ ys), last_append x xs y ys, q, t) refl
 
-  pub part_test : (xs ys : List ℕ) → All (λ x. rep x < rep i) xs → All (λ x. rep i < rep x) ys → parts i (outermost (xs ++ i ∷ ys)) ≡ (empty xs || empty ys)
+  pub part_test : (xs ys : List ℕ) → AllByRecursion (λ x. rep x < rep i) xs → AllByRecursion (λ x. rep i < rep x) ys → parts i (outermost (xs ++ i ∷ ys)) ≡ (empty xs || empty ys)
   part_test [] ys a b = or_left _ _ itself
   part_test (x ∷ xs) [] a b = rw (last_append x xs i []) (or_right _ _ itself)
   part_test (x ∷ xs) (y ∷ ys) a b =

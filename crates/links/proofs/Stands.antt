@@ -4,7 +4,7 @@
 --   Joining, joining_step, ..         setting it up level by level: the pairs, the frames, the links met, the room
 --   Parting, parting_step             taking it away level by level
 use Rattle.std.proofs.Common.{◌≡◌, ℕ, ◌+◌, ◌*◌, ◌^◌, ◌<◌, ◌≤◌, true, false, cond, List, ◌∷◌, ◌++◌, map, length, is_some, Some, None, sym, ap, ◌∙◌, subst, arith}
-use Rattle.std.specs.List.{AllByRecursion as All}
+use Rattle.std.specs.List.{AllByRecursion}
 use Rattle.std.proofs.ByRecursion.{all_kept_by}
 use Rattle.std.proofs.lemmas.Bool.{cond_both}
 use Rattle.dictionary.specs.Pairs.{Pairs, with_pair, among, apart}
@@ -32,8 +32,8 @@ module _ (w : ℕ) (rep : ℕ → ℕ) (order : List ℕ) (i : ℕ) (o : Ordered
   abbrev bare : Pairs
   bare = links w rep (without i order)
 
-  here : (P : ℕ → Type 0) → All P order → P i
-  here P a = let c = cut order i t in (all_parts P c.pre (i ∷ c.post) (subst (All P) c.is a)).1.0
+  here : (P : ℕ → Type 0) → AllByRecursion P order → P i
+  here P a = let c = cut order i t in (all_parts P c.pre (i ∷ c.post) (subst (AllByRecursion P) c.is a)).1.0
 
   pub small : rep i < 2 ^ w
   small = here (λ x. rep x < 2 ^ w) o.fits
@@ -79,7 +79,7 @@ module _ (w : ℕ) (rep : ℕ → ℕ) (order : List ℕ) (i : ℕ) (o : Ordered
         (ap (joined rep i) joining_at ∙ own_joined j jw) em (ap (joins rep i) joining_at ∙ own_joins j jw)
 
     -- the links found are numbers of the order
-    pub joining_links : (P : ℕ → Type 0) → All P order → (low high : ℕ) → f n ≡ Some (low, high) → P low × P high
+    pub joining_links : (P : ℕ → Type 0) → AllByRecursion P order → (low high : ℕ) → f n ≡ Some (low, high) → P low × P high
     joining_links P a low high e = links_all P w rep (without i order) (node_at w (rep i) j) low high (all_kept_by _ P order a) (sym joining_at ∙ e)
 
     -- a new pair has room

@@ -5,7 +5,7 @@
 --   joins_end, parts_end            the pair alters where i's representative is the least or the greatest under the node
 --   around_held, around_more        with i the node has a pair, and so has each that had one without it
 use Rattle.std.proofs.Common.{◌≡◌, ℕ, ◌^◌, ◌<◌, ◌≤◌, Bool, true, false, not, ◌&&◌, ◌||◌, leb, List, [], ◌∷◌, ◌++◌, map, is_some, filter, sym, refl, ap, ◌∙◌, subst, inl, inr, arith}
-use Rattle.std.specs.List.{AllByRecursion as All}
+use Rattle.std.specs.List.{AllByRecursion}
 use Rattle.std.proofs.lemmas.List.{map-append}
 use Rattle.std.proofs.lemmas.List.Elements.{filter-append}
 use Rattle.std.proofs.ByRecursion.{kept_by_passes, all_kept_by, All-weaker}
@@ -23,10 +23,10 @@ use Rattle.links.proofs.Nodes.{lies_node, lies_own, node_between}
 -- ---- around i
 record Around (w : ℕ) (rep : ℕ → ℕ) (pre : List ℕ) (i : ℕ) (post : List ℕ) : Type 0 where
   pub small : rep i < 2 ^ w
-  pub low : All (λ x. rep x < rep i) pre
-  pub low_small : All (λ x. rep x < 2 ^ w) pre
-  pub high : All (λ x. rep i < rep x) post
-  pub high_small : All (λ x. rep x < 2 ^ w) post
+  pub low : AllByRecursion (λ x. rep x < rep i) pre
+  pub low_small : AllByRecursion (λ x. rep x < 2 ^ w) pre
+  pub high : AllByRecursion (λ x. rep i < rep x) post
+  pub high_small : AllByRecursion (λ x. rep x < 2 ^ w) post
   pub rises : Rising rep pre
   pub rises_on : Rising rep post
 
@@ -37,7 +37,7 @@ around w rep pre i post o =
     record { small = f.1.0; low = rising_below rep pre i post o.rises; low_small = f.0; high = r.1.0; high_small = f.1.1; rises = r.0; rises_on = r.1.1 }
 
 -- the last of a rising row is the greatest
-last_most : (rep : ℕ → ℕ) (x : ℕ) (xs : List ℕ) → Rising rep (x ∷ xs) → All (λ y. rep y ≤ rep (last_from x xs)) (x ∷ xs)
+last_most : (rep : ℕ → ℕ) (x : ℕ) (xs : List ℕ) → Rising rep (x ∷ xs) → AllByRecursion (λ y. rep y ≤ rep (last_from x xs)) (x ∷ xs)
 last_most rep x [] r = (omega arith, tt)
 last_most rep x (y ∷ ys) r =
     let more = last_most rep y ys r.1 in
@@ -98,10 +98,10 @@ module _ (w : ℕ) (rep : ℕ → ℕ) (pre : List ℕ) (i : ℕ) (post : List �
   full_on : (n : ℕ) → lies w (rep i) n ≡ true → full n ≡ outermost (under_node w rep n pre ++ i ∷ under_node w rep n post)
   full_on n t = full_is n ∙ ap (λ l. outermost (under_node w rep n pre ++ l)) (cond-true (lies w (rep i) n) _ _ t)
 
-  lows : (n : ℕ) → All (λ x. rep x < rep i) (under_node w rep n pre)
+  lows : (n : ℕ) → AllByRecursion (λ x. rep x < rep i) (under_node w rep n pre)
   lows n = all_kept_by (λ x. lies w (rep x) n) (λ x. rep x < rep i) pre (around w rep pre i post o).low
 
-  highs : (n : ℕ) → All (λ x. rep i < rep x) (under_node w rep n post)
+  highs : (n : ℕ) → AllByRecursion (λ x. rep i < rep x) (under_node w rep n post)
   highs n = all_kept_by (λ x. lies w (rep x) n) (λ x. rep i < rep x) post (around w rep pre i post o).high
 
   around_joined : (n : ℕ) → lies w (rep i) n ≡ true → joined rep i (bare n) ≡ full n
@@ -132,7 +132,7 @@ module _ (w : ℕ) (rep : ℕ → ℕ) (pre : List ℕ) (i : ℕ) (post : List �
     lies_same x h = lies_node w x (rep i) j h small jw
 
     -- none of the row lies under the node
-    none_low : (xs : List ℕ) → All (λ x. rep x < rep i) xs → All (λ x. rep x < 2 ^ w) xs → every (λ x. not (same x) || leb (rep i) x) (map rep xs) ≡ empty (under_node w rep node xs)
+    none_low : (xs : List ℕ) → AllByRecursion (λ x. rep x < rep i) xs → AllByRecursion (λ x. rep x < 2 ^ w) xs → every (λ x. not (same x) || leb (rep i) x) (map rep xs) ≡ empty (under_node w rep node xs)
     none_low [] a b = refl
     none_low (x ∷ xs) a b =
         let more = none_low xs a.1 b.1 in
@@ -140,7 +140,7 @@ module _ (w : ℕ) (rep : ℕ → ℕ) (pre : List ℕ) (i : ℕ) (post : List �
         let t = lies_same (rep x) b.0 in
         elim (cases_Bool (same (rep x))) [ inl u ↦ rw (t, u, f) refl | inr u ↦ rw (t, u) more ]
 
-    none_high : (xs : List ℕ) → All (λ x. rep i < rep x) xs → All (λ x. rep x < 2 ^ w) xs → every (λ x. not (same x) || leb x (rep i)) (map rep xs) ≡ empty (under_node w rep node xs)
+    none_high : (xs : List ℕ) → AllByRecursion (λ x. rep i < rep x) xs → AllByRecursion (λ x. rep x < 2 ^ w) xs → every (λ x. not (same x) || leb x (rep i)) (map rep xs) ≡ empty (under_node w rep node xs)
     none_high [] a b = refl
     none_high (x ∷ xs) a b =
         let more = none_high xs a.1 b.1 in
@@ -148,11 +148,11 @@ module _ (w : ℕ) (rep : ℕ → ℕ) (pre : List ℕ) (i : ℕ) (post : List �
         let t = lies_same (rep x) b.0 in
         elim (cases_Bool (same (rep x))) [ inl u ↦ rw (t, u, f) refl | inr u ↦ rw (t, u) more ]
 
-    all_low : (xs : List ℕ) → All (λ x. rep x < rep i) xs → every (λ x. not (same x) || leb x (rep i)) (map rep xs) ≡ true
+    all_low : (xs : List ℕ) → AllByRecursion (λ x. rep x < rep i) xs → every (λ x. not (same x) || leb x (rep i)) (map rep xs) ≡ true
     all_low [] a = refl
     all_low (x ∷ xs) a = rw (all_low xs a.1, le-leb (rep x) (rep i) (omega (arith, a.0))) (let b = same (rep x) in grind (arith, nat_tests))
 
-    all_high : (xs : List ℕ) → All (λ x. rep i < rep x) xs → every (λ x. not (same x) || leb (rep i) x) (map rep xs) ≡ true
+    all_high : (xs : List ℕ) → AllByRecursion (λ x. rep i < rep x) xs → every (λ x. not (same x) || leb (rep i) x) (map rep xs) ≡ true
     all_high [] a = refl
     all_high (x ∷ xs) a = rw (all_high xs a.1, le-leb (rep i) (rep x) (omega (arith, a.0))) (let b = same (rep x) in grind (arith, nat_tests))
 
@@ -186,14 +186,14 @@ module _ (w : ℕ) (rep : ℕ → ℕ) (pre : List ℕ) (i : ℕ) (post : List �
     parts_end = around_parts node (lies_own w (rep i) j small jw) ∙ sym around_end
 
     -- the last before i that lies under the node is the one before i
-    back : (x : ℕ) (xs : List ℕ) → Rising rep (x ∷ xs) → All (λ z. rep z < rep i) (x ∷ xs) → All (λ z. rep z < 2 ^ w) (x ∷ xs) →
+    back : (x : ℕ) (xs : List ℕ) → Rising rep (x ∷ xs) → AllByRecursion (λ z. rep z < rep i) (x ∷ xs) → AllByRecursion (λ z. rep z < 2 ^ w) (x ∷ xs) →
         (y : ℕ) (zs : List ℕ) → under_node w rep node (x ∷ xs) ≡ y ∷ zs → last_from y zs ≡ last_from x xs
     back x xs r a b y zs e =
         let l = last_from x xs in
         let t : ℕ → Bool = λ z. lies w (rep z) node in
-        let passes : lies w (rep y) node ≡ true = (subst (λ k. All (λ z. t z ≡ true) k) e (kept_by_passes t (x ∷ xs))).0 in
-        let small_y : rep y < 2 ^ w = (subst (λ k. All (λ z. rep z < 2 ^ w) k) e (all_kept_by t (λ z. rep z < 2 ^ w) (x ∷ xs) b)).0 in
-        let most : rep y ≤ rep l = (subst (λ k. All (λ z. rep z ≤ rep l) k) e (all_kept_by t (λ z. rep z ≤ rep l) (x ∷ xs) (last_most rep x xs r))).0 in
+        let passes : lies w (rep y) node ≡ true = (subst (λ k. AllByRecursion (λ z. t z ≡ true) k) e (kept_by_passes t (x ∷ xs))).0 in
+        let small_y : rep y < 2 ^ w = (subst (λ k. AllByRecursion (λ z. rep z < 2 ^ w) k) e (all_kept_by t (λ z. rep z < 2 ^ w) (x ∷ xs) b)).0 in
+        let most : rep y ≤ rep l = (subst (λ k. AllByRecursion (λ z. rep z ≤ rep l) k) e (all_kept_by t (λ z. rep z ≤ rep l) (x ∷ xs) (last_most rep x xs r))).0 in
         let less : rep l < rep i = all_last (λ z. rep z < rep i) x xs a.0 a.1 in
         let small_l : rep l < 2 ^ w = all_last (λ z. rep z < 2 ^ w) x xs b.0 b.1 in
         let at_y : node_at w (rep y) j ≡ node = eqb-true _ _ (sym (lies_same (rep y) small_y) ∙ passes) in
@@ -201,24 +201,24 @@ module _ (w : ℕ) (rep : ℕ → ℕ) (pre : List ℕ) (i : ℕ) (post : List �
         ap lastly (sym e) ∙ last_kept t x xs (lies_same (rep l) small_l ∙ eq-eqb _ _ at_l)
 
     -- the first behind i that lies under the node is the one behind i
-    fore : (x : ℕ) (xs : List ℕ) → Rising rep (x ∷ xs) → All (λ z. rep i < rep z) (x ∷ xs) → All (λ z. rep z < 2 ^ w) (x ∷ xs) →
+    fore : (x : ℕ) (xs : List ℕ) → Rising rep (x ∷ xs) → AllByRecursion (λ z. rep i < rep z) (x ∷ xs) → AllByRecursion (λ z. rep z < 2 ^ w) (x ∷ xs) →
         (y : ℕ) (zs : List ℕ) → under_node w rep node (x ∷ xs) ≡ y ∷ zs → y ≡ x
     fore x xs r a b y zs e =
         let t : ℕ → Bool = λ z. lies w (rep z) node in
-        let passes : lies w (rep y) node ≡ true = (subst (λ k. All (λ z. t z ≡ true) k) e (kept_by_passes t (x ∷ xs))).0 in
-        let small_y : rep y < 2 ^ w = (subst (λ k. All (λ z. rep z < 2 ^ w) k) e (all_kept_by t (λ z. rep z < 2 ^ w) (x ∷ xs) b)).0 in
-        let least : All (λ z. rep x ≤ rep z) (x ∷ xs) = (omega arith, All-weaker (λ z. rep x < rep z) (λ z. rep x ≤ rep z) (λ z h. omega arith) xs r.0) in
-        let most : rep x ≤ rep y = (subst (λ k. All (λ z. rep x ≤ rep z) k) e (all_kept_by t (λ z. rep x ≤ rep z) (x ∷ xs) least)).0 in
+        let passes : lies w (rep y) node ≡ true = (subst (λ k. AllByRecursion (λ z. t z ≡ true) k) e (kept_by_passes t (x ∷ xs))).0 in
+        let small_y : rep y < 2 ^ w = (subst (λ k. AllByRecursion (λ z. rep z < 2 ^ w) k) e (all_kept_by t (λ z. rep z < 2 ^ w) (x ∷ xs) b)).0 in
+        let least : AllByRecursion (λ z. rep x ≤ rep z) (x ∷ xs) = (omega arith, All-weaker (λ z. rep x < rep z) (λ z. rep x ≤ rep z) (λ z h. omega arith) xs r.0) in
+        let most : rep x ≤ rep y = (subst (λ k. AllByRecursion (λ z. rep x ≤ rep z) k) e (all_kept_by t (λ z. rep x ≤ rep z) (x ∷ xs) least)).0 in
         let at_y : node_at w (rep y) j ≡ node = eqb-true _ _ (sym (lies_same (rep y) small_y) ∙ passes) in
         let at_x : node_at w (rep x) j ≡ node = node_between w (rep i) (rep x) (rep y) j (omega (arith, a.0)) most (sym at_y) in
         let k = cond-true (t x) (x ∷ filter t xs) (filter t xs) (lies_same (rep x) b.0 ∙ eq-eqb _ _ at_x) in
         ap first (sym e ∙ k)
 
-    behind : (next : ℕ) (xs : List ℕ) → Behind xs next → Rising rep xs → All (λ z. rep i < rep z) xs → All (λ z. rep z < 2 ^ w) xs → (y : ℕ) (zs : List ℕ) → under_node w rep node xs ≡ y ∷ zs → y ≡ next
+    behind : (next : ℕ) (xs : List ℕ) → Behind xs next → Rising rep xs → AllByRecursion (λ z. rep i < rep z) xs → AllByRecursion (λ z. rep z < 2 ^ w) xs → (y : ℕ) (zs : List ℕ) → under_node w rep node xs ≡ y ∷ zs → y ≡ next
     behind next [] h r a b y zs e = absurd (let z : ◌≡◌ {A = ℕ} 0 1 = cc in omega arith)
     behind next (x ∷ xs) h r a b y zs e = fore x xs r a b y zs e ∙ sym h
 
-    before : (prev : ℕ) (xs : List ℕ) → Before xs prev → Rising rep xs → All (λ z. rep z < rep i) xs → All (λ z. rep z < 2 ^ w) xs → (y : ℕ) (zs : List ℕ) → under_node w rep node xs ≡ y ∷ zs → last_from y zs ≡ prev
+    before : (prev : ℕ) (xs : List ℕ) → Before xs prev → Rising rep xs → AllByRecursion (λ z. rep z < rep i) xs → AllByRecursion (λ z. rep z < 2 ^ w) xs → (y : ℕ) (zs : List ℕ) → under_node w rep node xs ≡ y ∷ zs → last_from y zs ≡ prev
     before prev [] h r a b y zs e = absurd (let z : ◌≡◌ {A = ℕ} 0 1 = cc in omega arith)
     before prev (x ∷ xs) h r a b y zs e = back x xs r a b y zs e ∙ sym h
 

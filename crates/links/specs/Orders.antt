@@ -12,7 +12,7 @@
 --   Neighbours             so it is for each bucket of an order
 --   holder rep order k     the bucket that a key belongs to: the last whose representative is at most k
 use Rattle.std.specs.Prelude.{◌≡◌, ℕ, ◌^◌, ◌<◌, cond, not, List, [], ◌∷◌, ◌++◌, filter, ◌==◌, nat_le}
-use Rattle.std.specs.List.{AllByRecursion as All}
+use Rattle.std.specs.List.{AllByRecursion}
 
 abbrev pub last_from : ℕ → List ℕ → ℕ
 last_from x [] = x
@@ -34,11 +34,11 @@ with_at f i v n = cond (n == i) v (f n)
 
 abbrev pub Rising : (ℕ → ℕ) → List ℕ → Type 0
 Rising rep [] = Unit {0}
-Rising rep (x ∷ xs) = All (λ y. rep x < rep y) xs × Rising rep xs
+Rising rep (x ∷ xs) = AllByRecursion (λ y. rep x < rep y) xs × Rising rep xs
 
 pub record Ordered (w : ℕ) (rep : ℕ → ℕ) (order : List ℕ) : Type 0 where
   pub rises : Rising rep order
-  pub fits : All (λ x. rep x < 2 ^ w) order
+  pub fits : AllByRecursion (λ x. rep x < 2 ^ w) order
 
 abbrev pub ZeroFirst : (ℕ → ℕ) → List ℕ → Type 0
 ZeroFirst rep [] = ⊥

@@ -9,7 +9,7 @@
 --   Stepped       a call and its answer, with the view before and after
 --   Lawful        what always holds of a view
 use Rattle.std.specs.Prelude.{◌≡◌, ℕ, ◌+◌, ◌*◌, ◌^◌, ◌<◌, ◌≤◌, Bool, cond, List, length}
-use Rattle.std.specs.List.{AllByRecursion as All}
+use Rattle.std.specs.List.{AllByRecursion}
 use Rattle.dictionary.specs.Pairs.{Pairs, raised}
 use Rattle.key.specs.Widths.{most}
 use Rattle.entry.specs.declared.Entry.{Entry}
@@ -69,8 +69,8 @@ pub record Stepped (v : View) (call : Call) (places : List Entry) (r : Answer) (
 
 pub record Lawful (w : ℕ) (v : View) : Type 0 where
   pub rising : Rising v.entries
-  pub keys : All (λ (e : Entry). e.key < 2 ^ w) v.entries
-  pub notes : All (λ (e : Entry). e.note < 2 ^ 64) v.entries
+  pub keys : AllByRecursion (λ (e : Entry). e.key < 2 ^ w) v.entries
+  pub notes : AllByRecursion (λ (e : Entry). e.note < 2 ^ 64) v.entries
   pub within : length v.entries ≤ v.limit
   pub small : v.limit ≤ 512
   pub counts : v.tally < 2 ^ 64

@@ -6,7 +6,7 @@
 --   join-cut                      the number behind it taken out, and its own value replaced
 --   take_cut, drop_cut            the part before it; the part from it on
 use Rattle.std.proofs.Common.{◌≡◌, ℕ, suc, ◌+◌, List, [], ◌∷◌, ◌++◌, map, length, get_or, take, drop, set, sym, refl, ap, ◌∙◌, subst, arith}
-use Rattle.std.specs.List.{AllByRecursion as All}
+use Rattle.std.specs.List.{AllByRecursion}
 use Rattle.links.specs.Orders.{last_from}
 use Rattle.rows.specs.Rows.{ahead}
 
@@ -47,18 +47,18 @@ module _ {X : Type 0} (f : ℕ → X) where
       let e : suc (length pre + length mid) ≡ suc (length pre) + length mid = omega arith in
       subst (λ i. drop i (map f (x ∷ pre ++ (mid ++ r))) ≡ map f r) e (drop_past pre mid r)
 
-pub map_same : {X : Type 0} (f g : ℕ → X) (xs : List ℕ) → All (λ x. g x ≡ f x) xs → map g xs ≡ map f xs
+pub map_same : {X : Type 0} (f g : ℕ → X) (xs : List ℕ) → AllByRecursion (λ x. g x ≡ f x) xs → map g xs ≡ map f xs
 map_same f g [] a = refl
 map_same f g (x ∷ xs) a = ap (λ y. y ∷ map g xs) a.0 ∙ ap (λ l. f x ∷ l) (map_same f g xs a.1)
 
 module _ {X : Type 0} (f g : ℕ → X) where
-  pub set_cut : (pre : List ℕ) (n : ℕ) (post : List ℕ) → All (λ x. g x ≡ f x) pre → All (λ x. g x ≡ f x) post →
+  pub set_cut : (pre : List ℕ) (n : ℕ) (post : List ℕ) → AllByRecursion (λ x. g x ≡ f x) pre → AllByRecursion (λ x. g x ≡ f x) post →
       map g (pre ++ n ∷ post) ≡ set (map f (pre ++ n ∷ post)) (length pre) (g n)
   set_cut [] n post a b = ap (λ l. g n ∷ l) (map_same f g post b)
   set_cut (x ∷ pre) n post a b = ap (λ y. y ∷ map g (pre ++ n ∷ post)) a.0 ∙ ap (λ l. f x ∷ l) (set_cut pre n post a.1 b)
 
   -- some numbers in the middle make way for others
-  pub splice_cut : (pre mid new post : List ℕ) → All (λ x. g x ≡ f x) pre → All (λ x. g x ≡ f x) post →
+  pub splice_cut : (pre mid new post : List ℕ) → AllByRecursion (λ x. g x ≡ f x) pre → AllByRecursion (λ x. g x ≡ f x) post →
       map g (pre ++ (new ++ post)) ≡ take (length pre) (map f (pre ++ (mid ++ post))) ++ (map g new ++ drop (length pre + length mid) (map f (pre ++ (mid ++ post))))
   splice_cut pre mid new post a b =
       map_append g pre (new ++ post)

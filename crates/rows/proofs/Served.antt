@@ -4,7 +4,7 @@
 --   find_served, ..          each call, by that bucket and its neighbours
 --   find_path, ..            and its visits
 use Rattle.std.proofs.Common.{◌≡◌, ℕ, ◌+◌, ◌<◌, ◌≤◌, cond, List, [], ◌∷◌, ◌++◌, map, length, get_or, drop, refl, ap, ◌∙◌}
-use Rattle.std.specs.List.{flat_map, AllByRecursion as All}
+use Rattle.std.specs.List.{flat_map, AllByRecursion}
 use Rattle.entry.specs.declared.Entry.{Entry}
 use Rattle.entry.specs.Lists.{at, from, upto, between, filled, first, final}
 use Rattle.levels.specs.Counts.{searching}
@@ -22,9 +22,9 @@ pub record InRow (rep : ℕ → ℕ) (order : List ℕ) (k n : ℕ) : Type 0 whe
   pub pre : List ℕ
   pub post : List ℕ
   pub is : order ≡ pre ++ n ∷ post
-  pub low : All (λ x. rep x ≤ k) pre
+  pub low : AllByRecursion (λ x. rep x ≤ k) pre
   pub mine : rep n ≤ k
-  pub high : All (λ y. k < rep y) post
+  pub high : AllByRecursion (λ y. k < rep y) post
 
 module _ (rep : ℕ → ℕ) (items : ℕ → List Entry) (tree : ℕ → Tree) (order : List ℕ) (k n : ℕ) (c : InRow rep order k n) where
   abbrev pub s : List Bucket

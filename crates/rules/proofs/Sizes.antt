@@ -1,6 +1,6 @@
 -- Every bucket holds at most 5m entries and, where others stand, at least m.
 use Rattle.std.proofs.Common.{◌≡◌, ℕ, zero, suc, ◌+◌, ◌-◌, ◌*◌, ◌<◌, ◌≤◌, true, List, [], ◌∷◌, ◌++◌, length, take, drop, set, sym, refl, ◌∙◌, inl, inr, arith}
-use Rattle.std.specs.List.{AllByRecursion as All}
+use Rattle.std.specs.List.{AllByRecursion}
 use Rattle.std.proofs.lemmas.List.{length-append, length-set, take-set, take-set-le, drop-set-lt, get_or-set_same, get_or-set_other}
 use Rattle.std.proofs.ByRecursion.{All-append, All-set, All-take, All-drop, All-get_or}
 use Rattle.std.proofs.lemmas.Bool.{false≢true}
@@ -13,10 +13,10 @@ use Rattle.rules.specs.Changes.{Change, splice, halves, low_half, high_half, mer
 use Rattle.rules.specs.Runs.{saved}
 
 abbrev pub Low : ℕ → List Bucket → Type 0
-Low m s = All (λ (b : Bucket). m ≤ size b) s
+Low m s = AllByRecursion (λ (b : Bucket). m ≤ size b) s
 
 abbrev pub High : ℕ → List Bucket → Type 0
-High m s = All (λ (b : Bucket). size b ≤ 5 * m) s
+High m s = AllByRecursion (λ (b : Bucket). size b ≤ 5 * m) s
 
 pub several_set : (s : List Bucket) (i : ℕ) (b : Bucket) → several (set s i b) ≡ several s
 several_set [] i b = refl
@@ -26,7 +26,7 @@ several_set (a ∷ c ∷ s) zero b = refl
 several_set (a ∷ c ∷ s) (suc zero) b = refl
 several_set (a ∷ c ∷ s) (suc (suc i)) b = refl
 
-all_splice : (P : Bucket → Type 0) (l n : ℕ) (new s : List Bucket) → All P (take l s) → All P new → All P (drop (l + n) s) → All P (splice l n new s)
+all_splice : (P : Bucket → Type 0) (l n : ℕ) (new s : List Bucket) → AllByRecursion P (take l s) → AllByRecursion P new → AllByRecursion P (drop (l + n) s) → AllByRecursion P (splice l n new s)
 all_splice P l n new s a b c = All-append P (take l s) (new ++ drop (l + n) s) a (All-append P new (drop (l + n) s) b c)
 
 some_splice : (l n : ℕ) (b : Bucket) (new s : List Bucket) → 0 < length (splice l n (b ∷ new) s)
@@ -77,7 +77,7 @@ module _ (m : ℕ) (p : 0 < m) (s : List Bucket) (i : ℕ) (b : Bucket) (at : i 
             (all_splice (λ x. m ≤ size x) i 1 (halves b) s q.0 (omega arith, (omega arith, tt)) q.1);
       }
 
-  beside : (l : ℕ) → l ≤ i → i < l + 2 → (P : Bucket → Type 0) → All P s → All P (take l (set s i b)) × All P (drop (l + 2) (set s i b))
+  beside : (l : ℕ) → l ≤ i → i < l + 2 → (P : Bucket → Type 0) → AllByRecursion P s → AllByRecursion P (take l (set s i b)) × AllByRecursion P (drop (l + 2) (set s i b))
   beside l f g P h = (rw take-set-le (All-take P l s h), rw drop-set-lt (All-drop P (l + 2) s h))
 
   two_sized : (l : ℕ) → l ≤ i → i < l + 2 → several s ≡ true → (x : Bucket) (xs : List Bucket) → High m (x ∷ xs) → Low m (x ∷ xs) → Sized m (splice l 2 (x ∷ xs) (set s i b))

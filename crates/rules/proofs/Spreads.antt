@@ -1,6 +1,6 @@
 -- Entries in rising key order, in the buckets where they belong.
 use Rattle.std.proofs.Common.{◌≡◌, ℕ, suc, ◌+◌, ◌<◌, ◌≤◌, Bool, true, false, cond, eqb, ltb, leb, List, [], ◌∷◌, ◌++◌, length, drop, filter, sym, refl, ap, ◌∙◌, arith}
-use Rattle.std.specs.List.{AllByRecursion as All}
+use Rattle.std.specs.List.{AllByRecursion}
 use Rattle.std.proofs.lemmas.List.{length-append, append_assoc}
 use Rattle.std.proofs.lemmas.List.Sums.{sum_by-cons}
 use Rattle.std.proofs.lemmas.Bool.Decides.{nat_tests}
@@ -23,7 +23,7 @@ rise_join lo mid hi [] ys h k = rise_wider mid lo hi hi ys h (omega arith) k
 rise_join lo mid hi (e ∷ es) ys h k = (h.0, rise_join (suc e.key) mid hi es ys h.1 k)
 
 abbrev pub In : ℕ → ℕ → List Entry → Type 0
-In lo hi xs = All (λ (e : Entry). (lo ≤ e.key) × (e.key < hi)) xs
+In lo hi xs = AllByRecursion (λ (e : Entry). (lo ≤ e.key) × (e.key < hi)) xs
 
 pub in_rise : (lo hi : ℕ) (xs : List Entry) → Rise lo hi xs → In lo hi xs
 in_rise lo hi [] h = tt
@@ -31,11 +31,11 @@ in_rise lo hi (e ∷ es) h =
     let r : suc e.key ≤ hi = rise_le (suc e.key) hi es h.1 in
     ((h.0, r), All-weaker (λ x. (suc e.key ≤ x.key) × (x.key < hi)) (λ x. (lo ≤ x.key) × (x.key < hi)) (λ x p. (omega arith, p.1)) es (in_rise (suc e.key) hi es h.1))
 
-pub kept_all : {X : Type 0} (p : X → Bool) (xs : List X) → All (λ x. p x ≡ true) xs → filter p xs ≡ xs
+pub kept_all : {X : Type 0} (p : X → Bool) (xs : List X) → AllByRecursion (λ x. p x ≡ true) xs → filter p xs ≡ xs
 kept_all p [] h = refl
 kept_all p (x ∷ xs) h = cond-true (p x) (x ∷ filter p xs) (filter p xs) h.0 ∙ ap (λ t. x ∷ t) (kept_all p xs h.1)
 
-pub kept_none : {X : Type 0} (p : X → Bool) (xs : List X) → All (λ x. p x ≡ false) xs → filter p xs ≡ []
+pub kept_none : {X : Type 0} (p : X → Bool) (xs : List X) → AllByRecursion (λ x. p x ≡ false) xs → filter p xs ≡ []
 kept_none p [] h = refl
 kept_none p (x ∷ xs) h = cond-false (p x) (x ∷ filter p xs) (filter p xs) h.0 ∙ kept_none p xs h.1
 

@@ -1,6 +1,6 @@
 -- The buckets of an index give it a lawful view, and each call the step that the trait asks for.
 use Rattle.std.proofs.Common.{◌≡◌, ℕ, ◌+◌, ◌*◌, ◌^◌, ◌<◌, ◌≤◌, List, [], Some, None, Option, sym, refl, ap, ◌∙◌, arith}
-use Rattle.std.specs.List.{AllByRecursion as All}
+use Rattle.std.specs.List.{AllByRecursion}
 use Rattle.std.proofs.ByRecursion.{All-weaker}
 use Rattle.dictionary.specs.Pairs.{Pairs, raised}
 use Rattle.key.specs.Widths.{half, most}
@@ -70,7 +70,7 @@ few_frames w f MergeSplit a b h = omega (arith, most_within w a b)
 
 module _ (w limit : ℕ) (s : List Bucket) (so : Sound w limit s) where
   pub view_lawful : (tally : ℕ) (pairs : Pairs) (visits : Call → ℕ) → tally < 2 ^ 64 → limit ≤ 512 →
-      All (λ (e : Entry). e.note < 2 ^ 64) (flat s) → Lawful w (view_of w limit tally pairs visits s)
+      AllByRecursion (λ (e : Entry). e.note < 2 ^ 64) (flat s) → Lawful w (view_of w limit tally pairs visits s)
   view_lawful tally pairs visits counts small notes =
       let h = in_rise _ _ (flat s) (rise_flat (2 ^ w) s so.spread) in
       record {

@@ -15,7 +15,7 @@
 --   Sized m            some bucket stands; each holds at most 5m entries and, where others stand, at least m
 --   Sound w limit      what holds of an index's buckets between any two calls
 use Rattle.std.specs.Prelude.{◌≡◌, ℕ, zero, suc, ◌*◌, ◌^◌, ◌<◌, ◌≤◌, Bool, true, false, cond, List, [], ◌∷◌, map, length, drop, sum_by, nat_le, slice_index_or}
-use Rattle.std.specs.List.{flat_map, AllByRecursion as All}
+use Rattle.std.specs.List.{flat_map, AllByRecursion}
 use Rattle.key.specs.Widths.{half}
 use Rattle.entry.specs.declared.Entry.{Entry}
 
@@ -79,8 +79,8 @@ Spread top (b ∷ s) = (b.rep < lowest top s) × (Rise b.rep (lowest top s) b.it
 
 pub record Sized (m : ℕ) (s : List Bucket) : Type 0 where
   pub some : 0 < length s
-  pub high : All (λ (b : Bucket). size b ≤ 5 * m) s
-  pub low : several s ≡ true → All (λ (b : Bucket). m ≤ size b) s
+  pub high : AllByRecursion (λ (b : Bucket). size b ≤ 5 * m) s
+  pub low : several s ≡ true → AllByRecursion (λ (b : Bucket). m ≤ size b) s
 
 pub record Sound (w limit : ℕ) (s : List Bucket) : Type 0 where
   pub first : lowest (2 ^ w) s ≡ 0

@@ -1,6 +1,6 @@
 -- A step, from what the rules say of its call and from what is kept.
 use Rattle.std.proofs.Common.{◌≡◌, ℕ, ◌^◌, ◌<◌, ◌≤◌, List, sym, ap, ◌∙◌, subst}
-use Rattle.std.specs.List.{AllByRecursion as All}
+use Rattle.std.specs.List.{AllByRecursion}
 use Rattle.dictionary.specs.Pairs.{raised}
 use Rattle.entry.specs.declared.Entry.{Entry}
 use Rattle.ordered.specs.declared.calls.Call.{Call}
@@ -21,7 +21,7 @@ pub record Obeys (a : Answered) (s' : List Bucket) (t : RuleStep) : Type 0 where
 
 -- what is kept besides the buckets
 pub record Stays (w : ℕ) (σ : State) (call : Call) (a : Answered) (σ' : State) : Type 0 where
-  pub notes : All (λ (e : Entry). e.note < 2 ^ 64) (flat σ'.buckets)
+  pub notes : AllByRecursion (λ (e : Entry). e.note < 2 ^ 64) (flat σ'.buckets)
   pub planted : Planted σ'.buckets σ'.trees
   pub laid : Laid w (reps σ'.buckets) σ'.pairs
   pub counts : σ'.tally < 2 ^ 64

@@ -1,6 +1,6 @@
 -- A question's visits stay on the search path of one tree and on the way to the end of another.
 use Rattle.std.proofs.Common.{◌≡◌, ℕ, zero, suc, ◌+◌, ◌*◌, ◌<◌, ◌≤◌, List, [], ◌∷◌, length, Some, None, Option, sym, refl, ap, ◌∙◌, arith}
-use Rattle.std.specs.List.{AllByRecursion as All}
+use Rattle.std.specs.List.{AllByRecursion}
 use Rattle.std.proofs.lemmas.Bool.{cond_both}
 use Rattle.key.specs.Widths.{half, most}
 use Rattle.key.proofs.Logs.{half_within}
@@ -23,14 +23,14 @@ use Rattle.runs.specs.Runs.{Run, ended, then}
 use Rattle.runs.specs.Law.{Few, Short, AllShort}
 
 -- each tree of buckets with at most n entries is at most as high as n entries allow
-pub low_trees : (n : ℕ) → n < 232 → (s : List Bucket) (ts : List Tree) → Planted s ts → All (λ (b : Bucket). size b ≤ n) s → (i : ℕ) → tall (tree_at i ts) ≤ highest n
+pub low_trees : (n : ℕ) → n < 232 → (s : List Bucket) (ts : List Tree) → Planted s ts → AllByRecursion (λ (b : Bucket). size b ≤ n) s → (i : ℕ) → tall (tree_at i ts) ≤ highest n
 low_trees n h [] [] p a i = omega arith
 low_trees n h [] (t ∷ ts) p a i = absurd p
 low_trees n h (b ∷ s) [] p a i = absurd p
 low_trees n h (b ∷ s) (t ∷ ts) p a zero = highest_tree n h t p.1 (omega (arith, ap length p.0, a.0))
 low_trees n h (b ∷ s) (t ∷ ts) p a (suc i) = low_trees n h s ts p.2 a.1 i
 
-pub low_behind : (n : ℕ) → n < 232 → (s : List Bucket) (ts : List Tree) → Planted s ts → All (λ (b : Bucket). size b ≤ n) s → (i : ℕ) → tall (tree_behind i ts) ≤ highest n
+pub low_behind : (n : ℕ) → n < 232 → (s : List Bucket) (ts : List Tree) → Planted s ts → AllByRecursion (λ (b : Bucket). size b ≤ n) s → (i : ℕ) → tall (tree_behind i ts) ≤ highest n
 low_behind n h s ts p a zero = omega arith
 low_behind n h s ts p a (suc i) = low_trees n h s ts p a i
 

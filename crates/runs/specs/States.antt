@@ -12,7 +12,7 @@
 --   Answered        an answer, and the caller's places after it
 --   Step            a call, with the caller's places as they stood, its answer, and the state after it
 use Rattle.std.specs.Prelude.{◌≡◌, ℕ, zero, suc, ◌+◌, ◌^◌, ◌<◌, cond, List, [], ◌∷◌, map, Some, None, Option, slice_index_or}
-use Rattle.std.specs.List.{AllByRecursion as All}
+use Rattle.std.specs.List.{AllByRecursion}
 use Rattle.dictionary.specs.Pairs.{Pairs, raised}
 use Rattle.entry.specs.declared.Entry.{Entry}
 use Rattle.entry.specs.Lists.{from, upto, filled}
@@ -47,7 +47,7 @@ pub record Laid (w : ℕ) (rs : List ℕ) (pairs : Pairs) : Type 0 where
 
 pub record Sound (w limit : ℕ) (σ : State) : Type 0 where
   pub buckets : BucketsSound w limit σ.buckets
-  pub notes : All (λ (e : Entry). e.note < 2 ^ 64) (flat σ.buckets)
+  pub notes : AllByRecursion (λ (e : Entry). e.note < 2 ^ 64) (flat σ.buckets)
   pub planted : Planted σ.buckets σ.trees
   pub laid : Laid w (reps σ.buckets) σ.pairs
   pub counts : σ.tally < 2 ^ 64

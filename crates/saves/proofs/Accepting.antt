@@ -6,7 +6,7 @@
 --   command_for   the command of such an entry's record
 --   granted    it is accepted where all records standing are before it, and there is room
 use Rattle.std.proofs.Common.{◌≡◌, ℕ, ◌/◌, ◌^◌, ◌<◌, true, false, eqb, ltb, leb, List, [], ◌∷◌, ◌++◌, map, length, Some, None, Ok, Option, sym, refl, ap, ◌∙◌, inl, inr, arith}
-use Rattle.std.specs.List.{AllByRecursion as All}
+use Rattle.std.specs.List.{AllByRecursion}
 use Rattle.std.proofs.ByRecursion.{All-weaker, all_kept_by}
 use Rattle.std.proofs.lemmas.Bool.{cases_Bool, lt-leb, le-ltb, eq-eqb, false≢true}
 use Rattle.entry.specs.declared.Entry.{Entry}
@@ -82,7 +82,7 @@ lease_took v f t h e o = go (unfit f t) refl o
     ]
     go (Some r) q o = let z : ◌≡◌ {A = ℕ} 0 1 = cc in absurd (omega arith)
 
-lease_told : (v : View) (f t h : ℕ) → unfit f t ≡ None → length v.entries < v.limit → Spaced v.entries → All (λ (x : Entry). end x < f) v.entries → (leasing v f t h).told ≡ Ok (entered f t h)
+lease_told : (v : View) (f t h : ℕ) → unfit f t ≡ None → length v.entries < v.limit → Spaced v.entries → AllByRecursion (λ (x : Entry). end x < f) v.entries → (leasing v f t h).told ≡ Ok (entered f t h)
 unfolding lease_plan
 lease_told v f t h ok room s a =
     let free = none_sharing v.entries s f t (all_kept_by (λ x. leb x.key t) (λ (x : Entry). end x < f) v.entries a) in
@@ -157,11 +157,11 @@ command_for Leases e h = (Lease e.key (end e) (record { number = holder_of e; bo
 command_for Events e h = (AddEvent e.key e.note, refl)
 
 -- ---- all records, part by part
-all_unmap : (P : Record → Type 0) (f : Entry → Record) (xs : List Entry) → All P (map f xs) → All (λ e. P (f e)) xs
+all_unmap : (P : Record → Type 0) (f : Entry → Record) (xs : List Entry) → AllByRecursion P (map f xs) → AllByRecursion (λ e. P (f e)) xs
 all_unmap P f [] a = tt
 all_unmap P f (x ∷ xs) a = (a.0, all_unmap P f xs a.1)
 
-pub part_all : (P : Record → Type 0) (p : Part) (b : BookView) → All P (records b) → All (λ e. P (form p e)) (look p b).entries
+pub part_all : (P : Record → Type 0) (p : Part) (b : BookView) → AllByRecursion P (records b) → AllByRecursion (λ e. P (form p e)) (look p b).entries
 part_all P Names b a = all_unmap P (form Names) b.names.entries (all_parts P (forms Names b.names.entries) (forms Leases b.leases.entries ++ forms Events b.events.entries) a).0
 part_all P Leases b a =
     all_unmap P (form Leases) b.leases.entries
@@ -180,7 +180,7 @@ noted_fit e n =
     let d : eqb (e.key / 2 ^ 24) (end e / 2 ^ 24) ≡ true = eq-eqb (e.key / 2 ^ 24) (end e / 2 ^ 24) (omega (arith, n.inside)) in
     rw (a, b, c, d) refl
 
-pub granted : (p : Part) (e : Entry) (h : Proper p e) (u : BookView) → Standing u → shut u ≡ false → All (λ y. Before y (form p e)) (records u) → length (look p u).entries < 256 →
+pub granted : (p : Part) (e : Entry) (h : Proper p e) (u : BookView) → Standing u → shut u ≡ false → AllByRecursion (λ y. Before y (form p e)) (records u) → length (look p u).entries < 256 →
     (x : Entry) × ((book_plan u (command_for p e h).0).told ≡ Ok x)
 unfolding command_for
 granted Names e h u s open' a room =
@@ -192,7 +192,7 @@ granted Names e h u s open' a room =
           ∙ add_told u.names 56 e.key e.note lim.1 s.names.wide h.0 (under_at e.key u.names.entries under) (omega (arith, lim.0)),
     )
 granted Leases e h u s open' a room =
-    let ended : All (λ (x : Entry). end x < e.key) u.leases.entries =
+    let ended : AllByRecursion (λ (x : Entry). end x < e.key) u.leases.entries =
     All-weaker (λ (x : Entry). Before (form Leases x) (form Leases e)) (λ (x : Entry). end x < e.key) (λ x b. b.apart refl refl) u.leases.entries (part_all (λ y. Before y (form Leases e)) Leases u a) in
     let lim = part_limit Leases u s open' in (
       entered e.key (end e) (holder_of e),

@@ -9,7 +9,7 @@
 --   kept_forms          the records of a part, among those of a book
 --   entry_for, entries_again   an entry from its record; a part's entries from the book's records
 use Rattle.std.proofs.Common.{◌≡◌, ℕ, zero, suc, ◌+◌, ◌-◌, ◌*◌, ◌/◌, ◌%◌, ◌^◌, ◌<◌, ◌≤◌, Bool, true, eqb, ◌⊎◌, List, [], ◌∷◌, ◌++◌, map, length, get_or, take, Some, None, filter, Option, sym, refl, ap, ◌∙◌, inl, inr, ⊎_elim, append-nil, arith}
-use Rattle.std.specs.List.{AllByRecursion as All}
+use Rattle.std.specs.List.{AllByRecursion}
 use Rattle.std.proofs.lemmas.List.Elements.{filter-append}
 use Rattle.std.proofs.ByRecursion.{All-append, All-map, All-weaker, All-get_or}
 use Rattle.std.proofs.lemmas.Bool.{cases_Bool}
@@ -65,13 +65,13 @@ pub record Before (y x : Record) : Type 0 where
 
 abbrev pub Climbing : List Record → Type 0
 Climbing [] = Unit {0}
-Climbing (x ∷ xs) = All (Before x) xs × Climbing xs
+Climbing (x ∷ xs) = AllByRecursion (Before x) xs × Climbing xs
 
-climbing_append : (xs ys : List Record) → Climbing xs → Climbing ys → All (λ x. All (Before x) ys) xs → Climbing (xs ++ ys)
+climbing_append : (xs ys : List Record) → Climbing xs → Climbing ys → AllByRecursion (λ x. AllByRecursion (Before x) ys) xs → Climbing (xs ++ ys)
 climbing_append [] ys cx cy a = cy
 climbing_append (x ∷ xs) ys cx cy a = (All-append (Before x) xs ys cx.0 a.0, climbing_append xs ys cx.1 cy a.1)
 
-pub earlier : (xs : List Record) (n : ℕ) (d : Record) → Climbing xs → n < length xs → All (λ y. Before y (get_or xs n d)) (take n xs)
+pub earlier : (xs : List Record) (n : ℕ) (d : Record) → Climbing xs → n < length xs → AllByRecursion (λ y. Before y (get_or xs n d)) (take n xs)
 earlier [] n d c h = absurd (omega arith)
 earlier (x ∷ xs) zero d c h = tt
 earlier (x ∷ xs) (suc n) d c h = (All-get_or (Before x) xs n d (omega arith) c.0, earlier xs n d c.1 (omega arith))
@@ -100,13 +100,13 @@ spaced_leases (x ∷ xs) s = (
 )
 
 -- records of two parts
-crosses : (p q : Part) (xs ys : List Entry) → code_for p < code_for q → (code_for p ≡ 5 → code_for q ≡ 5 → ⊥) → All (λ (e : Entry). e.key < 2 ^ 60) xs → All (λ x. All (Before x) (forms q ys)) (forms p xs)
+crosses : (p q : Part) (xs ys : List Entry) → code_for p < code_for q → (code_for p ≡ 5 → code_for q ≡ 5 → ⊥) → AllByRecursion (λ (e : Entry). e.key < 2 ^ 60) xs → AllByRecursion (λ x. AllByRecursion (Before x) (forms q ys)) (forms p xs)
 crosses p q xs ys l never keys =
-    All-map (λ x. All (Before x) (forms q ys)) (form p) xs
-    (All-weaker (λ (e : Entry). e.key < 2 ^ 60) (λ (e : Entry). All (Before (form p e)) (forms q ys))
+    All-map (λ x. AllByRecursion (Before x) (forms q ys)) (form p) xs
+    (All-weaker (λ (e : Entry). e.key < 2 ^ 60) (λ (e : Entry). AllByRecursion (Before (form p e)) (forms q ys))
     (λ e h. All-map (Before (form p e)) (form q) ys (every (λ (y : Entry). Before (form p e) (form q y)) ys (λ y. record { rises = omega (arith, form_rank p e, form_rank q y, h); apart = λ a b. absurd (never (sym (code_is p e) ∙ a) (sym (code_is q y) ∙ b)) }))) xs keys)
   where
-    every : (P : Entry → Type 0) (zs : List Entry) → ((z : Entry) → P z) → All P zs
+    every : (P : Entry → Type 0) (zs : List Entry) → ((z : Entry) → P z) → AllByRecursion P zs
     every P [] f = tt
     every P (z ∷ zs) f = (f z, every P zs f)
 
@@ -115,8 +115,8 @@ crosses p q xs ys l never keys =
     code_is Leases e = refl
     code_is Events e = refl
 
-pub climbing : (b : BookView) → Rising b.names.entries → Spaced b.leases.entries → Rising b.events.entries → All (λ (e : Entry). e.key < 2 ^ 60) b.names.entries →
-    All (λ (e : Entry). e.key < 2 ^ 60) b.leases.entries → Climbing (records b)
+pub climbing : (b : BookView) → Rising b.names.entries → Spaced b.leases.entries → Rising b.events.entries → AllByRecursion (λ (e : Entry). e.key < 2 ^ 60) b.names.entries →
+    AllByRecursion (λ (e : Entry). e.key < 2 ^ 60) b.leases.entries → Climbing (records b)
 climbing b rn sl re kn kl =
     let n = b.names.entries in
     let l = b.leases.entries in
@@ -125,7 +125,7 @@ climbing b rn sl re kn kl =
     (climbing_append (forms Leases l) (forms Events e) (spaced_leases l sl) (rising_events e re) (crosses Leases Events l e (omega arith) (λ _ (z : ◌≡◌ {A = ℕ} 8 5). omega arith) kl))
     (both_ways (forms Names n) (forms Leases l) (forms Events e) (crosses Names Leases n l (omega arith) (λ (z : ◌≡◌ {A = ℕ} 1 5) _. omega arith) kn) (crosses Names Events n e (omega arith) (λ (z : ◌≡◌ {A = ℕ} 1 5) _. omega arith) kn))
   where
-    both_ways : (xs ys zs : List Record) → All (λ x. All (Before x) ys) xs → All (λ x. All (Before x) zs) xs → All (λ x. All (Before x) (ys ++ zs)) xs
+    both_ways : (xs ys zs : List Record) → AllByRecursion (λ x. AllByRecursion (Before x) ys) xs → AllByRecursion (λ x. AllByRecursion (Before x) zs) xs → AllByRecursion (λ x. AllByRecursion (Before x) (ys ++ zs)) xs
     both_ways [] ys zs a b = tt
     both_ways (x ∷ xs) ys zs a b = (All-append (Before x) ys zs a.0 b.0, both_ways xs ys zs a.1 b.1)
 

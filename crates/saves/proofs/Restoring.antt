@@ -1,6 +1,6 @@
 -- A load of a save takes every record, and gives the same entries.
 use Rattle.std.proofs.Common.{◌≡◌, ℕ, ◌+◌, ◌/◌, ◌^◌, ◌<◌, ◌≤◌, true, false, List, [], ◌∷◌, ◌++◌, map, length, get_or, take, Some, None, Ok, Err, filter, Option, sym, refl, ap, ◌∙◌, subst, arith, length-append, take_all}
-use Rattle.std.specs.List.{AllByRecursion as All}
+use Rattle.std.specs.List.{AllByRecursion}
 use Rattle.std.proofs.ByRecursion.{All-append, All-map, All-get_or, All-weaker}
 use Rattle.std.proofs.lemmas.List.{take_more, length-map}
 use Rattle.std.proofs.lemmas.Bool.{both_ways}
@@ -37,18 +37,18 @@ pub record Good (x : Record) : Type 0 where
   pub is : x ≡ form part entry
   pub proper : Proper part entry
 
-both : (P Q : Entry → Type 0) (xs : List Entry) → All P xs → All Q xs → All (λ e. P e × Q e) xs
+both : (P Q : Entry → Type 0) (xs : List Entry) → AllByRecursion P xs → AllByRecursion Q xs → AllByRecursion (λ e. P e × Q e) xs
 both P Q [] a b = tt
 both P Q (x ∷ xs) a b = ((a.0, b.0), both P Q xs a.1 b.1)
 
-all_noted : (xs : List Entry) → Spaced xs → All Noted xs
+all_noted : (xs : List Entry) → Spaced xs → AllByRecursion Noted xs
 all_noted [] s = tt
 all_noted (x ∷ xs) s = (s.0, all_noted xs s.2)
 
-good_forms : (p : Part) (xs : List Entry) → All (Proper p) xs → All Good (forms p xs)
+good_forms : (p : Part) (xs : List Entry) → AllByRecursion (Proper p) xs → AllByRecursion Good (forms p xs)
 good_forms p xs a = All-map Good (form p) xs (All-weaker (Proper p) (λ (e : Entry). Good (form p e)) (λ e h. record { part = p; entry = e; is = refl; proper = h }) xs a)
 
-good : (b : BookView) → Standing b → All Good (records b)
+good : (b : BookView) → Standing b → AllByRecursion Good (records b)
 good b s =
     let n = b.names.entries in
     let l = b.leases.entries in
@@ -77,7 +77,7 @@ positive Events e = omega arith
 nowhere : Record
 nowhere = plain 0 0 0
 
-last_before : {o : Option Record} {rs : List Record} (x : Record) → LastOf o rs → All (λ y. Before y x) rs → 0 < rank x → rank_of o < rank x
+last_before : {o : Option Record} {rs : List Record} (x : Record) → LastOf o rs → AllByRecursion (λ y. Before y x) rs → 0 < rank x → rank_of o < rank x
 last_before x nothing a h = h
 last_before x (this zs y) a h = (all_parts (λ y. Before y x) zs (y ∷ []) a).1.0.rises
 
@@ -142,7 +142,7 @@ module _ (other : BookView) (so : Standing other) (oo : shut other ≡ false) wh
         x : Record
         x = at (length ts)
 
-        before_it : All (λ y. Before y x) (records u)
+        before_it : AllByRecursion (λ y. Before y x) (records u)
         unfolding all at x
         before_it = rw (front l (omega arith)) (earlier (records other) (length ts) nowhere climbs h)
 
@@ -184,7 +184,7 @@ module _ (other : BookView) (so : Standing other) (oo : shut other ≡ false) wh
             let g = good_at (length ts) h in
             let k = command_for g.part g.entry g.proper in
             let is : c ≡ k.0 = fields_same c k.0 (same_fields (length ts) c h s ∙ g.is ∙ sym k.1) in
-            let a : All (λ y. Before y (form g.part g.entry)) (records u) = rw g.is at before_it in
+            let a : AllByRecursion (λ y. Before y (form g.part g.entry)) (records u) = rw g.is at before_it in
             let ok = granted g.part g.entry g.proper u su so_far.unshut a room in
             let told : (book_plan u c).told ≡ Ok ok.0 = ap (λ (c : Command). (book_plan u c).told) is ∙ ok.1 in
             let err : (book_plan u c).told ≡ Err e = sym d.planned.outcome ∙ z in

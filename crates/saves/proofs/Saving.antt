@@ -2,7 +2,7 @@
 use Rattle.std.proofs.Common.{◌≡◌, ℕ, ◌+◌, ◌-◌, ◌*◌, ◌^◌, ◌<◌, ◌≤◌, false, ◌||◌, List, [], ◌∷◌, ◌++◌, length, get_or, take, drop, sym, ap, ◌∙◌, append_assoc, arith, length-append, take-append-drop, length-take, take_all, drop-drop}
 use borrow.Rule.Slice.PartMut.{put_mid}
 use lib.Seq.{take-append_seam}
-use Rattle.std.specs.List.{AllByRecursion as All}
+use Rattle.std.specs.List.{AllByRecursion}
 use Rattle.std.proofs.ByRecursion.{All-weaker}
 use Rattle.std.proofs.lemmas.List.{take_more, map-append, length-map}
 use Rattle.std.proofs.lemmas.Bool.{or_parts}
@@ -55,7 +55,7 @@ front_is xs more places n e p =
     ap (λ (k : ℕ). take k places) z ∙ ap (take (length xs)) p ∙ take-append_seam xs more
 
 -- ---- what always holds of the entries of a book that is not shut
-pub part_keys : (p : Part) (b : BookView) → Standing b → All (λ (e : Entry). e.key < 2 ^ 60) (look p b).entries
+pub part_keys : (p : Part) (b : BookView) → Standing b → AllByRecursion (λ (e : Entry). e.key < 2 ^ 60) (look p b).entries
 part_keys Names b s = All-weaker (λ (e : Entry). e.key < 2 ^ 56) (λ (e : Entry). e.key < 2 ^ 60) (λ e h. omega arith) b.names.entries s.names.keys
 part_keys Leases b s = All-weaker (λ (e : Entry). e.key < 2 ^ 32) (λ (e : Entry). e.key < 2 ^ 60) (λ e h. omega arith) b.leases.entries s.leases.keys
 part_keys Events b s = All-weaker (λ (e : Entry). e.key < 2 ^ 48) (λ (e : Entry). e.key < 2 ^ 60) (λ e h. omega arith) b.events.entries s.events.keys

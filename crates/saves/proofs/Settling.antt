@@ -6,7 +6,7 @@
 --   few_taken   it has at most 768 records
 --   takes_adds, turned_adds   the frames of the records tried
 use Rattle.std.proofs.Common.{◌≡◌, ℕ, ◌+◌, ◌*◌, ◌^◌, ◌<◌, ◌≤◌, Bool, true, false, not, ◌||◌, List, [], ◌∷◌, ◌++◌, length, take, Some, None, Ok, Option, sym, refl, ap, ◌∙◌, append_assoc, append-nil, arith, length-append, take-add}
-use Rattle.std.specs.List.{AllByRecursion as All}
+use Rattle.std.specs.List.{AllByRecursion}
 use Rattle.std.proofs.ByRecursion.{All-push, All-weaker}
 use Rattle.std.proofs.lemmas.List.{map-append, length-map}
 use Rattle.std.proofs.lemmas.Bool.{and_parts}
@@ -42,14 +42,14 @@ use Rattle.saves.proofs.Accepting.{added, part_all}
 put_last : (e : Entry) (xs : List Entry) → Under e.key xs → put e xs ≡ xs ++ (e ∷ [])
 put_last e xs u = rw (under_below e.key xs u, under_above e.key xs u) refl
 
-none_left : (P : Entry → Type 0) (xs : List Entry) → All P xs → ((x : Entry) → P x → ⊥) → xs ≡ []
+none_left : (P : Entry → Type 0) (xs : List Entry) → AllByRecursion P xs → ((x : Entry) → P x → ⊥) → xs ≡ []
 none_left P [] a never = refl
 none_left P (x ∷ xs) a never = absurd (never x a.0)
 
 forms_push : (p : Part) (e : Entry) (xs : List Entry) → Under e.key xs → forms p (put e xs) ≡ forms p xs ++ (form p e ∷ [])
 forms_push p e xs u = ap (forms p) (put_last e xs u) ∙ map-append (form p) xs (e ∷ [])
 
-module _ (u u' : BookView) (m : ℕ) (all : All (λ y. rank y ≤ m) (records u)) where
+module _ (u u' : BookView) (m : ℕ) (all : AllByRecursion (λ y. rank y ≤ m) (records u)) where
   under : (p : Part) (e : Entry) → m < code_for p * 2 ^ 64 + e.key → Under e.key (look p u).entries
   under p e h = All-weaker (λ (x : Entry). rank (form p x) ≤ m) (λ (x : Entry). x.key < e.key) (λ x l. omega (arith, form_rank p x)) (look p u).entries (part_all (λ y. rank y ≤ m) p u all)
 
@@ -91,7 +91,7 @@ pub data LastOf : Option Record → List Record → Type 0 where
 pub record Settled (bytes : List ℕ) (ts : List Turn) (o : Option Record) (u : BookView) : Type 0 where
   pub unshut : shut u ≡ false
   pub short : Short o
-  pub bound : All (λ y. rank y ≤ rank_of o) (records u)
+  pub bound : AllByRecursion (λ y. rank y ≤ rank_of o) (records u)
   pub last : LastOf o (records u)
   pub count : length (records u) ≡ length ts
   pub same : saved u ≡ take (32 * length ts) bytes

@@ -1,6 +1,6 @@
 // Saving, without a frame.
 ghost use Rattle.std.specs.Prelude.{◌≡◌, ◌+◌, ◌*◌, ◌^◌, ◌<◌, ◌≤◌, false, ◌++◌, length, take, drop};
-ghost use Rattle.std.specs.List.{AllByRecursion as All};
+ghost use Rattle.std.specs.List.{AllByRecursion};
 ghost use Rattle.entry.specs.declared.Entry.{Entry as AnEntry};
 ghost use Rattle.book.specs.Books.{look, shut as is_shut};
 ghost use Rattle.saves.specs.Saves.{form as form_of, forms, wires, Saved};
@@ -31,7 +31,7 @@ fn form(part: Part, entry: Entry) -> Record
 
 // Writes the entries' records one after another, from a place on.
 fn write(part: Part, entries: &[Entry], out: &mut [u8], at: usize)
-    requires keys { All (λ (e : AnEntry). e.key < 2 ^ 60) entries.now }
+    requires keys { AllByRecursion (λ (e : AnEntry). e.key < 2 ^ 60) entries.now }
     requires room { at + 32 * length entries.now ≤ length out.old }
     ensures { out.new ≡ take at out.old ++ (wires (forms part entries.now) ++ drop (at + 32 * length entries.now) out.old) }
 {

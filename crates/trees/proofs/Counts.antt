@@ -6,7 +6,7 @@
 --   times_all                  what holds of every number that stands in a list
 --   distinct_few, whole_long   how long a list is in which each number below n stands once at most; once
 use Rattle.std.proofs.Common.{◌≡◌, ℕ, zero, suc, ◌+◌, ◌<◌, ◌≤◌, eqb, List, [], ◌∷◌, ◌++◌, length, refl, ap, inl, inr, arith}
-use Rattle.std.specs.List.{AllByRecursion as All}
+use Rattle.std.specs.List.{AllByRecursion}
 use Rattle.std.proofs.lemmas.Bool.{eq-eqb, ne_eqb, cond-true, cond-false, cases_eq}
 use Rattle.trees.specs.Counts.{single, times}
 
@@ -23,7 +23,7 @@ pub times_append : (m : ℕ) (xs ys : List ℕ) → times m (xs ++ ys) ≡ times
 times_append m [] ys = omega arith
 times_append m (x ∷ xs) ys = omega (arith, times_append m xs ys)
 
-pub times_all : (P : ℕ → Type 0) (xs : List ℕ) → ((m : ℕ) → 1 ≤ times m xs → P m) → All P xs
+pub times_all : (P : ℕ → Type 0) (xs : List ℕ) → ((m : ℕ) → 1 ≤ times m xs → P m) → AllByRecursion P xs
 times_all P [] h = tt
 times_all P (x ∷ xs) h = (h x (omega (arith, single_same x x refl)), times_all P xs (λ m l. h m (omega arith)))
 
@@ -54,7 +54,7 @@ spread_more (suc n) x xs lt = elim (cases_eq n x) [
   | inr e ↦ omega (arith, spread_more n x xs (omega arith), single_other n x e)
 ]
 
-spread_all : (n : ℕ) (xs : List ℕ) → All (λ x. x < n) xs → spread n xs ≡ length xs
+spread_all : (n : ℕ) (xs : List ℕ) → AllByRecursion (λ x. x < n) xs → spread n xs ≡ length xs
 spread_all n [] h = spread_none n
 spread_all n (x ∷ xs) h = omega (arith, spread_more n x xs h.0, spread_all n xs h.1)
 
@@ -66,8 +66,8 @@ spread_whole : (n : ℕ) (xs : List ℕ) → ((m : ℕ) → m < n → times m xs
 spread_whole zero xs h = refl
 spread_whole (suc n) xs h = omega (arith, spread_whole n xs (λ m lt. h m (omega arith)), h n (omega arith))
 
-pub distinct_few : (n : ℕ) (xs : List ℕ) → All (λ x. x < n) xs → ((m : ℕ) → times m xs ≤ 1) → length xs ≤ n
+pub distinct_few : (n : ℕ) (xs : List ℕ) → AllByRecursion (λ x. x < n) xs → ((m : ℕ) → times m xs ≤ 1) → length xs ≤ n
 distinct_few n xs in_n once = omega (arith, spread_all n xs in_n, spread_few n xs once)
 
-pub whole_long : (n : ℕ) (xs : List ℕ) → All (λ x. x < n) xs → ((m : ℕ) → m < n → times m xs ≡ 1) → length xs ≡ n
+pub whole_long : (n : ℕ) (xs : List ℕ) → AllByRecursion (λ x. x < n) xs → ((m : ℕ) → m < n → times m xs ≡ 1) → length xs ≡ n
 whole_long n xs in_n once = omega (arith, spread_all n xs in_n, spread_whole n xs once)

@@ -9,7 +9,7 @@
 --   opened-..                                   a bucket opened in the table, before its representative is set up
 --   closed_sound                                a bucket taken away and closed
 use Rattle.std.proofs.Common.{◌≡◌, ℕ, zero, suc, ◌+◌, ◌*◌, ◌^◌, ◌<◌, ◌≤◌, true, false, eqb, leb, ◌⊎◌, List, [], ◌∷◌, ◌++◌, map, length, is_some, Some, sym, refl, ap, ◌∙◌, subst, inl, inr, mul-one, arith, pow_pos}
-use Rattle.std.specs.List.{AllByRecursion as All}
+use Rattle.std.specs.List.{AllByRecursion}
 use Rattle.std.proofs.ByRecursion.{All-weaker}
 use Rattle.std.proofs.lemmas.Bool.{leb-false, eq-eqb, or_left, or_right}
 use Rattle.dictionary.specs.Pairs.{Pairs, among, apart, no_pairs}
@@ -34,19 +34,19 @@ among_cut (y ∷ ys) x post = or_right (eqb x y) (among x (ys ++ x ∷ post)) (a
 
 -- what stands behind the bucket of a key is above the key
 all_above : (w : ℕ) (rep : ℕ → ℕ) (order : List ℕ) (a r : ℕ) → Ordered w rep order → ZeroFirst rep order → a ≡ holder rep order r →
-    (pre post : List ℕ) → order ≡ pre ++ a ∷ post → All (λ y. r < rep y) post
+    (pre post : List ℕ) → order ≡ pre ++ a ∷ post → AllByRecursion (λ y. r < rep y) post
 all_above w rep order a r o z e pre post is =
     let c = holder_splits rep r order z in
     let h = holder rep order r in
     let rises = subst (Rising rep) c.is o.rises in
     let low = All-weaker (λ y. rep y < rep h) (λ y. (rep y ≤ rep a) ⊎ (r < rep y)) (λ y l. inl (omega (arith, ap rep e))) c.pre (rising_below rep c.pre h c.post rises) in
     let high = All-weaker (λ y. leb (rep y) r ≡ false) (λ y. (rep y ≤ rep a) ⊎ (r < rep y)) (λ y t. inr (leb-false (rep y) r t)) c.post c.none in
-    let every : All (λ y. (rep y ≤ rep a) ⊎ (r < rep y)) order = subst (All _) (sym c.is) (joined _ c.pre h c.post low (inl (omega (arith, ap rep e))) high) in
-    let mine = (all_parts _ pre (a ∷ post) (subst (All _) is every)).1.1 in
+    let every : AllByRecursion (λ y. (rep y ≤ rep a) ⊎ (r < rep y)) order = subst (AllByRecursion _) (sym c.is) (joined _ c.pre h c.post low (inl (omega (arith, ap rep e))) high) in
+    let mine = (all_parts _ pre (a ∷ post) (subst (AllByRecursion _) is every)).1.1 in
     let up = (rising_parts rep pre (a ∷ post) (subst (Rising rep) is o.rises)).1.0 in
     all_both (λ y. rep a < rep y) (λ y. (rep y ≤ rep a) ⊎ (r < rep y)) (λ y. r < rep y) (λ y l s. elim s [ inl k ↦ absurd (omega arith) | inr k ↦ k ]) post up mine
   where
-    joined : (P : ℕ → Type 0) (xs : List ℕ) (x : ℕ) (ys : List ℕ) → All P xs → P x → All P ys → All P (xs ++ x ∷ ys)
+    joined : (P : ℕ → Type 0) (xs : List ℕ) (x : ℕ) (ys : List ℕ) → AllByRecursion P xs → P x → AllByRecursion P ys → AllByRecursion P (xs ++ x ∷ ys)
     joined P [] x ys a p b = (p, b)
     joined P (y ∷ xs) x ys a p b = (a.0, joined P xs x ys a.1 p b)
 
@@ -87,7 +87,7 @@ module _ (w : ℕ) (f : Pairs) (t : Table) (s : Sound w f t) where
   module _ (u : Table) (a r n : ℕ) (new : among n (order_of t) ≡ false)
       (o : Shows u (put_after a n (order_of t)) (with_at (rep_of t) n r) (with_at (size_of t) n 0) (with_at (root_of t) n 65535))
       (behind : a ≡ holder (rep_of t) (order_of t) r) (over : rep_of t a < r) (fit : r < 2 ^ w) where
-    others : All (Not n) (order_of t)
+    others : AllByRecursion (Not n) (order_of t)
     others = apart_all n (order_of t) new
 
     stood : among a (order_of t) ≡ true
@@ -120,7 +120,7 @@ module _ (w : ℕ) (f : Pairs) (t : Table) (s : Sound w f t) where
     opened_sound g e = record {
       table = o.stands;
       ordered = opened_ordered;
-      first = ap (λ h. h 0) o.rep ∙ with_other (rep_of t) n r 0 (subst (All (Not n)) (order_is t) others).0 ∙ s.first;
+      first = ap (λ h. h 0) o.rep ∙ with_other (rep_of t) n r 0 (subst (AllByRecursion (Not n)) (order_is t) others).0 ∙ s.first;
       pairs = e;
     }
 

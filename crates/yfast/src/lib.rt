@@ -12,6 +12,7 @@ pub mod index;
 mod last;
 mod list;
 pub mod make;
+pub mod meaning;
 mod next;
 mod range;
 mod remove;

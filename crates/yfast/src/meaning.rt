@@ -8,8 +8,8 @@ use crate::index::YFast;
 use dictionary::Dictionary;
 use entry::Entry;
 use key::Key;
+use ordered::Answer;
 use ordered::index::OrderedIndex;
-use ordered::{Answer, Refusal};
 
 impl<K: Key, D: Dictionary> OrderedIndex<K> for YFast<K, D> {
     ghost view = { λ s. seen_as s.inside.shut K.Key.width (D.Dictionary.pairs s.dictionary) (D.Dictionary.frames s.dictionary) s.inside };
@@ -18,7 +18,7 @@ impl<K: Key, D: Dictionary> OrderedIndex<K> for YFast<K, D> {
 
     ghost lawful = { λ s h.
         let d = D.Dictionary in
-        lawful-as s.inside.shut K.Key.width (d.pairs s.dictionary) (d.room s.dictionary) (d.frames s.dictionary) s.inside (D.Dictionary.counts s.dictionary) h };
+        lawful_as s.inside.shut K.Key.width (d.pairs s.dictionary) (d.room s.dictionary) (d.frames s.dictionary) s.inside (D.Dictionary.counts s.dictionary) h };
 
     fn add(&mut self, key: u64, note: u64) -> Answer {
         YFast::add(self, key, note)
@@ -60,7 +60,7 @@ impl<K: Key, D: Dictionary> OrderedIndex<K> for YFast<K, D> {
         }
     }
 
-    fn list(&self, places: &mut [Entry]) -> Result<usize, Refusal> {
-        YFast::list(self, places)
+    fn list(&self, places: &mut [Entry]) {
+        YFast::list(self, places);
     }
 }

@@ -2,7 +2,6 @@
 --
 --   lawful_as    an index gives a lawful view
 --   stepped_as   a call that does what the index promises is a step of views
---   listed-all   all entries are listed, or are more than the places
 use Rattle.std.proofs.Common.{◌≡◌, ℕ, ◌+◌, ◌*◌, ◌^◌, ◌<◌, ◌≤◌, Bool, true, false, leb, List, [], ◌∷◌, length, filter, sym, refl, ap, ◌∙◌, subst, inl, inr, arith}
 use Rattle.std.proofs.lemmas.Bool.{cases_Bool}
 use Rattle.dictionary.specs.Pairs.{Pairs, raised}
@@ -11,8 +10,8 @@ use Rattle.entry.specs.declared.Entry.{Entry}
 use Rattle.ordered.specs.declared.calls.Answer.{Answer}
 use Rattle.ordered.specs.declared.calls.Call.{Call}
 use Rattle.ordered.specs.Sorted.{Told, changed}
-use Rattle.ordered.specs.Meaning.{View, Laid, Stepped, Lawful, answers}
-use Rattle.rules.specs.Buckets.{Bucket, flat, reps}
+use Rattle.ordered.specs.Meaning.{View, Stepped, Lawful, answers}
+use Rattle.rules.specs.Buckets.{Bucket, flat}
 use Rattle.rules.specs.Steps.{Reply, step}
 use Rattle.rules.specs.Views.{view_of, Replied}
 use Rattle.rules.proofs.Calls.{agrees}
@@ -25,7 +24,7 @@ use Rattle.runs.proofs.Visits.{visits_most}
 use Rattle.inside.specs.declared.Inside.{Inside}
 use Rattle.inside.specs.Whole.{Whole, Unless, Does, state_of}
 use Rattle.inside.specs.Views.{closed_view, open_view, seen_as}
-use Rattle.inside.proofs.Parts.{laid, sound_state}
+use Rattle.inside.proofs.Parts.{sound_state}
 
 -- ---- no tree is higher than ten
 kept_few : (p : ℕ → Bool) (xs : List ℕ) → length (filter p xs) ≤ length xs
@@ -46,11 +45,9 @@ lawful_as true w f room tally i h so = record {
   small = omega arith;
   counts = h;
   wide = refl;
-  laid = λ e. let z : ◌≡◌ {A = ℕ} 0 1 = cc in absurd (omega arith);
 }
 lawful_as false w f room tally i h so =
     view_lawful w i.limit (row_of i.table i.pool) so.buckets tally f (λ c. visits w c (row_of i.table i.pool) (grove_of i.table i.pool)) h so.small so.notes
-    (laid w f i.table i.pool so.trie)
 
 -- ---- a call on a shut index
 closed_step : (w : ℕ) (f f' : Pairs) (tally tally' : ℕ) (i i' : Inside) (c : Call) (ps : List Entry) (r : Answer) (qs : List Entry) → tally < 2 ^ 64 →
@@ -73,12 +70,10 @@ closed_step w f f' tally tally' i i' c ps r qs h d =
       width = refl;
       shut = refl;
       tally = omega arith;
-      terms = λ cs. refl;
-      laid = λ e. let z : ◌≡◌ {A = ℕ} 0 1 = cc in absurd (omega arith);
       paid = omega arith;
       few = omega arith;
       short = omega arith;
-      still = λ z. (ap (λ (a : Answered). a.answer.rebuilding) d.0, ap (λ (σ : State). σ.pairs) d.1, refl, refl, refl);
+      still = λ z. (ap (λ (a : Answered). a.answer.rebuilding) d.0, ap (λ (σ : State). σ.pairs) d.1, refl, refl);
     }
 
 -- ---- a call on an index that is not shut
@@ -119,8 +114,7 @@ module _ (w : ℕ) (big : 8 ≤ w) (small : w ≤ 60) (f : Pairs) (room tally : 
   open_step l =
       let v = open_view w f tally i in
       let vis = seen_on s' (grove_of i'.table i'.pool) in
-      let base = view_stepped w i.limit s wh.buckets big small c ps r tally tally' f f' (seen_on s (grove_of i.table i.pool)) vis replied few_visits st.tally
-      (subst (λ x. Laid w (reps x) f') st.buckets st.sound.laid) quiet in
+      let base = view_stepped w i.limit s wh.buckets big small c ps r tally tally' f f' (seen_on s (grove_of i.table i.pool)) vis replied few_visits st.tally quiet in
       let moved = subst (λ x. Stepped v c ps r (step w i.limit c ps s).reply.told.places (view_of w i.limit tally' f' vis x)) (sym st.buckets) base in
       let limited = subst (λ x. Stepped v c ps r (step w i.limit c ps s).reply.told.places (view_of w x tally' f' vis s')) (sym l) moved in
       subst (λ x. Stepped v c ps r x (open_view w f' tally' i')) (sym (ap (λ (t : Told). t.places) told_so)) limited

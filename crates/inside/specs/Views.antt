@@ -21,8 +21,7 @@ closed_view w f tally = record {
   tally = tally;
   pairs = f;
   credit = 0;
-  terms = λ cs. record { reps = []; frames = λ c. 0; rebuilding = λ c. Unchanged };
-  visits = λ c. 0;
+  cost = λ c. record { frames = 0; visits = 0; rebuilding = Unchanged };
 }
 
 abbrev pub open_view : ℕ → Pairs → ℕ → Inside → View
