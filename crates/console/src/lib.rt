@@ -18,7 +18,6 @@ use key::kinds::{Moment, Name, Station};
 use saves::season::season;
 use saves::{Deed, Outcome};
 use yfast::index::YFast;
-use yfast::meaning::YFastOrdered;
 
 const ROOM: u32 = 256;
 
@@ -50,7 +49,9 @@ pub fn run_new<A: Dictionary, B: Dictionary, C: Dictionary>(
     ensures ran { RanNew (given (A.Dictionary.pairs names) (A.Dictionary.room names) (length (A.Dictionary.nodes names)) (A.Dictionary.frames names)) (given (B.Dictionary.pairs leases) (B.Dictionary.room leases) (length (B.Dictionary.nodes leases)) (B.Dictionary.frames leases)) (given (C.Dictionary.pairs events) (C.Dictionary.room events) (length (C.Dictionary.nodes events)) (C.Dictionary.frames events)) script.now answers.old answers.new (view_of (seen_as result.names.inside.shut 56 (A.Dictionary.pairs result.names.dictionary) (A.Dictionary.frames result.names.dictionary) result.names.inside) (seen_as result.leases.inside.shut 32 (B.Dictionary.pairs result.leases.dictionary) (B.Dictionary.frames result.leases.dictionary) result.leases.inside) (seen_as result.events.inside.shut 48 (C.Dictionary.pairs result.events.dictionary) (C.Dictionary.frames result.events.dictionary) result.events.inside)) }
 {
     let mut book = new_book(names, leases, events);
-    run(&mut book, script, answers);
+    let count = script.len().div_ceil(32).min(answers.len() / 32);
+    let end = (32 * count).min(script.len());
+    run(&mut book, &script[0..end], answers);
     book
 }
 
@@ -67,6 +68,7 @@ pub fn season_new<A: Dictionary, B: Dictionary, C: Dictionary>(
     ensures season { SeasonNew (given (A.Dictionary.pairs names) (A.Dictionary.room names) (length (A.Dictionary.nodes names)) (A.Dictionary.frames names)) (given (B.Dictionary.pairs leases) (B.Dictionary.room leases) (length (B.Dictionary.nodes leases)) (B.Dictionary.frames leases)) (given (C.Dictionary.pairs events) (C.Dictionary.room events) (length (C.Dictionary.nodes events)) (C.Dictionary.frames events)) tape.now deeds.now outcomes.old outcomes.new (view_of (seen_as result.names.inside.shut 56 (A.Dictionary.pairs result.names.dictionary) (A.Dictionary.frames result.names.dictionary) result.names.inside) (seen_as result.leases.inside.shut 32 (B.Dictionary.pairs result.leases.dictionary) (B.Dictionary.frames result.leases.dictionary) result.leases.inside) (seen_as result.events.inside.shut 48 (C.Dictionary.pairs result.events.dictionary) (C.Dictionary.frames result.events.dictionary) result.events.inside)) }
 {
     let mut book = new_book(names, leases, events);
-    season(&mut book, tape, deeds, outcomes);
+    let count = deeds.len().min(outcomes.len());
+    season(&mut book, tape, &deeds[0..count], outcomes);
     book
 }

@@ -14,11 +14,11 @@
 use Rattle.std.specs.Prelude.{◌≡◌, ℕ, ◌+◌, ◌*◌, ◌/◌, ◌^◌, ◌≤◌, min, true, false, List, [], ◌∷◌, length, take, is_some}
 use Rattle.dictionary.specs.Pairs.{Pairs}
 use Rattle.ordered.specs.Fitness.{fitness}
-use Rattle.ordered.specs.Meaning.{View, Laid}
+use Rattle.ordered.specs.Meaning.{View}
 use Rattle.rules.specs.Buckets.{new}
 use Rattle.rules.specs.Views.{view_of}
 use Rattle.trees.specs.Trees.{leaf}
-use Rattle.runs.specs.States.{visits}
+use Rattle.runs.specs.States.{Laid, visits}
 use Rattle.inside.specs.Views.{closed_view}
 use Rattle.book.specs.Books.{BookView, shut, room as book_room}
 use Rattle.book.specs.Runs.{frames, changes, parts, Ran, FromNew}
