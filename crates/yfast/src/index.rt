@@ -1,6 +1,6 @@
 // An index: its dictionary, and what it keeps beside it.
 use dictionary::Dictionary;
-use inside::Inside;
+pub use inside::Inside;
 use key::Key;
 use std::marker::PhantomData;
 
