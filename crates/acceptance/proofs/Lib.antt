@@ -1,0 +1,4 @@
+pub mod Apart
+pub mod Steps
+pub mod Whole
+pub mod Reported

@@ -2,17 +2,17 @@
 --
 --   lawful_as    an index gives a lawful view
 --   stepped_as   a call that does what the index promises is a step of views
-use Rattle.std.proofs.Common.{◌≡◌, ℕ, ◌+◌, ◌*◌, ◌^◌, ◌<◌, ◌≤◌, Bool, true, false, leb, List, [], ◌∷◌, length, filter, sym, refl, ap, ◌∙◌, subst, inl, inr, arith}
-use Rattle.std.proofs.lemmas.Bool.{cases_Bool}
-use Rattle.dictionary.specs.Pairs.{Pairs, raised}
+use Rattle.std.proofs.Common.{◌≡◌, ℕ, ◌*◌, ◌^◌, ◌<◌, ◌≤◌, Bool, true, false, leb, List, sym, refl, ap, ◌∙◌, subst, arith}
+use Rattle.dictionary.specs.Pairs.{Pairs}
 use Rattle.key.specs.Widths.{half}
 use Rattle.entry.specs.declared.Entry.{Entry}
+use Rattle.entry.proofs.Filters.{kept_short}
 use Rattle.ordered.specs.declared.calls.Answer.{Answer}
 use Rattle.ordered.specs.declared.calls.Call.{Call}
 use Rattle.ordered.specs.Sorted.{Told, changed}
-use Rattle.ordered.specs.Meaning.{View, Stepped, Lawful, answers}
-use Rattle.rules.specs.Buckets.{Bucket, flat}
-use Rattle.rules.specs.Steps.{Reply, step}
+use Rattle.ordered.specs.Meaning.{Stepped, Lawful, answers}
+use Rattle.rules.specs.Buckets.{Bucket}
+use Rattle.rules.specs.Steps.{step}
 use Rattle.rules.specs.Views.{view_of, Replied}
 use Rattle.rules.proofs.Calls.{agrees}
 use Rattle.rules.proofs.Views.{view_lawful, view_stepped}
@@ -27,13 +27,9 @@ use Rattle.inside.specs.Views.{closed_view, open_view, seen_as}
 use Rattle.inside.proofs.Parts.{sound_state}
 
 -- ---- no tree is higher than ten
-kept_few : (p : ℕ → Bool) (xs : List ℕ) → length (filter p xs) ≤ length xs
-kept_few p [] = omega arith
-kept_few p (x ∷ xs) = elim (cases_Bool (p x)) [ inl e ↦ rw e (omega (arith, kept_few p xs)) | inr e ↦ rw e (omega (arith, kept_few p xs)) ]
-
 at_most_ten : (n : ℕ) → highest n ≤ 10
 unfolding highest
-at_most_ten n = kept_few (λ x. leb x n) table
+at_most_ten n = kept_short (λ x. leb x n) table
 
 -- ---- what always holds
 pub lawful_as : (shut : Bool) (w : ℕ) (f : Pairs) (room tally : ℕ) (i : Inside) → tally < 2 ^ 64 → Unless shut (Whole w f room tally i) → Lawful w (seen_as shut w f tally i)

@@ -7,5 +7,6 @@ pub mod Moves
 pub mod Calls
 pub mod Running
 pub mod Search
+pub mod Blind
 pub mod Views
 pub mod OnTracks

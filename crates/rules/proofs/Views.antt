@@ -1,5 +1,5 @@
 -- The buckets of an index give it a lawful view, and each call the step that the trait asks for.
-use Rattle.std.proofs.Common.{◌≡◌, ℕ, ◌+◌, ◌*◌, ◌^◌, ◌<◌, ◌≤◌, List, [], Some, None, Option, sym, refl, ap, ◌∙◌, arith}
+use Rattle.std.proofs.Common.{◌≡◌, ℕ, ◌+◌, ◌*◌, ◌^◌, ◌<◌, ◌≤◌, List, [], Some, sym, refl, ap, ◌∙◌, arith}
 use Rattle.std.specs.List.{AllByRecursion}
 use Rattle.std.proofs.ByRecursion.{All-weaker}
 use Rattle.dictionary.specs.Pairs.{Pairs, raised}
@@ -8,7 +8,6 @@ use Rattle.key.proofs.Logs.{most_within}
 use Rattle.entry.specs.declared.Entry.{Entry}
 use Rattle.ordered.specs.declared.calls.Answer.{Answer}
 use Rattle.ordered.specs.declared.calls.Call.{Call}
-use Rattle.ordered.specs.declared.calls.Call.TheVariants.{Add, Remove, Find, Next, Last, Range}
 use Rattle.ordered.specs.declared.calls.Rebuilding.{Rebuilding}
 use Rattle.ordered.specs.declared.calls.Rebuilding.TheVariants.{Unchanged, Split, Merge, MergeSplit}
 use Rattle.ordered.specs.declared.refusal.Refusal.{Refusal}
@@ -16,44 +15,13 @@ use Rattle.ordered.specs.Numbers.{rebuilt}
 use Rattle.ordered.specs.Sorted.{misfit, changed}
 use Rattle.ordered.specs.Meaning.{answers, Lawful, Stepped}
 use Rattle.rules.specs.Buckets.{Bucket, flat, lowest, Sound}
-use Rattle.rules.specs.Steps.{Step, added, removed, served, barred, step}
+use Rattle.rules.specs.Steps.{step}
 use Rattle.rules.specs.Runs.{saved}
 use Rattle.rules.specs.Views.{cost_of, view_of, Replied}
 use Rattle.rules.proofs.Spreads.{in_rise, rise_flat, total_flat}
 use Rattle.rules.proofs.Calls.{agrees}
+use Rattle.rules.proofs.Blind.{step_blind}
 use Rattle.rules.proofs.Running.{rising_flat}
-
--- ---- what a call costs does not depend on the caller's places
-abbrev SameCost : Step → Step → Type 0
-SameCost t u = (t.reply.frames ≡ u.reply.frames) × (t.reply.rebuilding ≡ u.reply.rebuilding)
-
-added_cost : (w : ℕ) (no : Option Refusal) (e : Entry) (i f : ℕ) (ps qs : List Entry) (s : List Bucket) → SameCost (added w no e i f ps s) (added w no e i f qs s)
-unfolding added
-added_cost w None e i f ps qs s = (refl, refl)
-added_cost w (Some r) e i f ps qs s = (refl, refl)
-
-removed_cost : (w : ℕ) (no : Option Refusal) (k i f : ℕ) (ps qs : List Entry) (s : List Bucket) → SameCost (removed w no k i f ps s) (removed w no k i f qs s)
-unfolding removed
-removed_cost w None k i f ps qs s = (refl, refl)
-removed_cost w (Some r) k i f ps qs s = (refl, refl)
-
-served_cost : (w limit : ℕ) (c : Call) (ps qs : List Entry) (s : List Bucket) → SameCost (served w limit c ps s) (served w limit c qs s)
-unfolding served
-served_cost w limit (Add k v) ps qs s = added_cost w _ _ _ _ ps qs s
-served_cost w limit (Remove k) ps qs s = removed_cost w _ _ _ _ ps qs s
-served_cost w limit (Find k) ps qs s = (refl, refl)
-served_cost w limit (Next k) ps qs s = (refl, refl)
-served_cost w limit (Last k) ps qs s = (refl, refl)
-served_cost w limit (Range a b) ps qs s = (refl, refl)
-
-barred_cost : (w limit : ℕ) (no : Option Refusal) (c : Call) (ps qs : List Entry) (s : List Bucket) →
-    SameCost (barred no ps s (served w limit c ps s)) (barred no qs s (served w limit c qs s))
-barred_cost w limit None c ps qs s = served_cost w limit c ps qs s
-barred_cost w limit (Some r) c ps qs s = (refl, refl)
-
-step_cost : (w limit : ℕ) (c : Call) (ps qs : List Entry) (s : List Bucket) → SameCost (step w limit c ps s) (step w limit c qs s)
-unfolding step
-step_cost w limit c ps qs s = barred_cost w limit (misfit w c) c ps qs s
 
 -- ---- the view
 -- what is refused before the first frame costs nothing
@@ -91,7 +59,7 @@ module _ (w limit : ℕ) (s : List Bucket) (so : Sound w limit s) where
   unfolding answers
   view_stepped low high c ps r tally tally' pairs pairs' visits visits' is short rise same =
       let a = agrees w limit low s so c ps in
-      let k = step_cost w limit c ps [] s in
+      let k = step_blind w limit c ps [] s in
       let t = step w limit c ps s in
       let f = few_frames w t.reply.frames t.reply.rebuilding low high a.few in
       let o = ap (changed c) is.outcome in
@@ -99,9 +67,9 @@ module _ (w limit : ℕ) (s : List Bucket) (so : Sound w limit s) where
         outcome = is.outcome ∙ ap (λ x. x.outcome) a.told;
         number = is.number ∙ ap (λ x. x.number) a.told;
         written = ap (λ x. x.places) a.told;
-        frames = is.frames ∙ k.0;
+        frames = is.frames ∙ k.frames;
         visits = is.visits;
-        rebuilding = is.rebuilding ∙ k.1;
+        rebuilding = is.rebuilding ∙ k.rebuilding;
         entries = a.list;
         limit = refl;
         width = refl;
