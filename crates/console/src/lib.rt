@@ -6,18 +6,18 @@
 #![tactic(auto)]
 
 ghost use Rattle.std.specs.Prelude.{length};
-ghost use Rattle.inside.specs.Whole.{Sound};
-ghost use Rattle.inside.specs.Views.{seen_as};
-ghost use Rattle.book.specs.Books.{Bounded, view_of};
 ghost use Rattle.console.specs.Opening.{given, NewBook, RanNew, SeasonNew};
 
-use book::Book;
 use book::runs::run;
+use book::{Book, Ledger};
 use dictionary::Dictionary;
 use key::kinds::{Moment, Name, Station};
 use saves::season::season;
 use saves::{Deed, Outcome};
 use yfast::index::YFast;
+
+// The book of names, leases and events.
+pub type PassBook<A, B, C> = Book<YFast<Name, A>, YFast<Station, B>, YFast<Moment, C>>;
 
 const ROOM: u32 = 256;
 
@@ -26,9 +26,9 @@ pub fn new_book<A: Dictionary, B: Dictionary, C: Dictionary>(
     names: A,
     leases: B,
     events: C,
-) -> Book<YFast<Name, A>, YFast<Station, B>, YFast<Moment, C>>
-    ensures sound { Sound 56 (A.Dictionary.pairs result.names.dictionary) (A.Dictionary.room result.names.dictionary) (A.Dictionary.frames result.names.dictionary) result.names.inside × Sound 32 (B.Dictionary.pairs result.leases.dictionary) (B.Dictionary.room result.leases.dictionary) (B.Dictionary.frames result.leases.dictionary) result.leases.inside × Sound 48 (C.Dictionary.pairs result.events.dictionary) (C.Dictionary.room result.events.dictionary) (C.Dictionary.frames result.events.dictionary) result.events.inside × Bounded (view_of (seen_as result.names.inside.shut 56 (A.Dictionary.pairs result.names.dictionary) (A.Dictionary.frames result.names.dictionary) result.names.inside) (seen_as result.leases.inside.shut 32 (B.Dictionary.pairs result.leases.dictionary) (B.Dictionary.frames result.leases.dictionary) result.leases.inside) (seen_as result.events.inside.shut 48 (C.Dictionary.pairs result.events.dictionary) (C.Dictionary.frames result.events.dictionary) result.events.inside)) }
-    ensures new { NewBook (given (A.Dictionary.pairs names) (A.Dictionary.room names) (length (A.Dictionary.nodes names)) (A.Dictionary.frames names)) (given (B.Dictionary.pairs leases) (B.Dictionary.room leases) (length (B.Dictionary.nodes leases)) (B.Dictionary.frames leases)) (given (C.Dictionary.pairs events) (C.Dictionary.room events) (length (C.Dictionary.nodes events)) (C.Dictionary.frames events)) (view_of (seen_as result.names.inside.shut 56 (A.Dictionary.pairs result.names.dictionary) (A.Dictionary.frames result.names.dictionary) result.names.inside) (seen_as result.leases.inside.shut 32 (B.Dictionary.pairs result.leases.dictionary) (B.Dictionary.frames result.leases.dictionary) result.leases.inside) (seen_as result.events.inside.shut 48 (C.Dictionary.pairs result.events.dictionary) (C.Dictionary.frames result.events.dictionary) result.events.inside)) }
+) -> PassBook<A, B, C>
+    ensures sound { ⟦<PassBook<A, B, C> as Ledger>⟧.sound result }
+    ensures new { NewBook (given (A.Dictionary.pairs names) (A.Dictionary.room names) (length (A.Dictionary.nodes names)) (A.Dictionary.frames names)) (given (B.Dictionary.pairs leases) (B.Dictionary.room leases) (length (B.Dictionary.nodes leases)) (B.Dictionary.frames leases)) (given (C.Dictionary.pairs events) (C.Dictionary.room events) (length (C.Dictionary.nodes events)) (C.Dictionary.frames events)) (⟦<PassBook<A, B, C> as Ledger>⟧.view result) }
 {
     Book::new(
         YFast::new(ROOM, names),
@@ -44,9 +44,9 @@ pub fn run_new<A: Dictionary, B: Dictionary, C: Dictionary>(
     events: C,
     script: &[u8],
     answers: &mut [u8],
-) -> Book<YFast<Name, A>, YFast<Station, B>, YFast<Moment, C>>
-    ensures sound { Sound 56 (A.Dictionary.pairs result.names.dictionary) (A.Dictionary.room result.names.dictionary) (A.Dictionary.frames result.names.dictionary) result.names.inside × Sound 32 (B.Dictionary.pairs result.leases.dictionary) (B.Dictionary.room result.leases.dictionary) (B.Dictionary.frames result.leases.dictionary) result.leases.inside × Sound 48 (C.Dictionary.pairs result.events.dictionary) (C.Dictionary.room result.events.dictionary) (C.Dictionary.frames result.events.dictionary) result.events.inside × Bounded (view_of (seen_as result.names.inside.shut 56 (A.Dictionary.pairs result.names.dictionary) (A.Dictionary.frames result.names.dictionary) result.names.inside) (seen_as result.leases.inside.shut 32 (B.Dictionary.pairs result.leases.dictionary) (B.Dictionary.frames result.leases.dictionary) result.leases.inside) (seen_as result.events.inside.shut 48 (C.Dictionary.pairs result.events.dictionary) (C.Dictionary.frames result.events.dictionary) result.events.inside)) }
-    ensures ran { RanNew (given (A.Dictionary.pairs names) (A.Dictionary.room names) (length (A.Dictionary.nodes names)) (A.Dictionary.frames names)) (given (B.Dictionary.pairs leases) (B.Dictionary.room leases) (length (B.Dictionary.nodes leases)) (B.Dictionary.frames leases)) (given (C.Dictionary.pairs events) (C.Dictionary.room events) (length (C.Dictionary.nodes events)) (C.Dictionary.frames events)) script.now answers.old answers.new (view_of (seen_as result.names.inside.shut 56 (A.Dictionary.pairs result.names.dictionary) (A.Dictionary.frames result.names.dictionary) result.names.inside) (seen_as result.leases.inside.shut 32 (B.Dictionary.pairs result.leases.dictionary) (B.Dictionary.frames result.leases.dictionary) result.leases.inside) (seen_as result.events.inside.shut 48 (C.Dictionary.pairs result.events.dictionary) (C.Dictionary.frames result.events.dictionary) result.events.inside)) }
+) -> PassBook<A, B, C>
+    ensures sound { ⟦<PassBook<A, B, C> as Ledger>⟧.sound result }
+    ensures ran { RanNew (given (A.Dictionary.pairs names) (A.Dictionary.room names) (length (A.Dictionary.nodes names)) (A.Dictionary.frames names)) (given (B.Dictionary.pairs leases) (B.Dictionary.room leases) (length (B.Dictionary.nodes leases)) (B.Dictionary.frames leases)) (given (C.Dictionary.pairs events) (C.Dictionary.room events) (length (C.Dictionary.nodes events)) (C.Dictionary.frames events)) script.now answers.old answers.new (⟦<PassBook<A, B, C> as Ledger>⟧.view result) }
 {
     let mut book = new_book(names, leases, events);
     let count = script.len().div_ceil(32).min(answers.len() / 32);
@@ -63,9 +63,9 @@ pub fn season_new<A: Dictionary, B: Dictionary, C: Dictionary>(
     tape: &[u8],
     deeds: &[Deed],
     outcomes: &mut [Outcome],
-) -> Book<YFast<Name, A>, YFast<Station, B>, YFast<Moment, C>>
-    ensures sound { Sound 56 (A.Dictionary.pairs result.names.dictionary) (A.Dictionary.room result.names.dictionary) (A.Dictionary.frames result.names.dictionary) result.names.inside × Sound 32 (B.Dictionary.pairs result.leases.dictionary) (B.Dictionary.room result.leases.dictionary) (B.Dictionary.frames result.leases.dictionary) result.leases.inside × Sound 48 (C.Dictionary.pairs result.events.dictionary) (C.Dictionary.room result.events.dictionary) (C.Dictionary.frames result.events.dictionary) result.events.inside × Bounded (view_of (seen_as result.names.inside.shut 56 (A.Dictionary.pairs result.names.dictionary) (A.Dictionary.frames result.names.dictionary) result.names.inside) (seen_as result.leases.inside.shut 32 (B.Dictionary.pairs result.leases.dictionary) (B.Dictionary.frames result.leases.dictionary) result.leases.inside) (seen_as result.events.inside.shut 48 (C.Dictionary.pairs result.events.dictionary) (C.Dictionary.frames result.events.dictionary) result.events.inside)) }
-    ensures season { SeasonNew (given (A.Dictionary.pairs names) (A.Dictionary.room names) (length (A.Dictionary.nodes names)) (A.Dictionary.frames names)) (given (B.Dictionary.pairs leases) (B.Dictionary.room leases) (length (B.Dictionary.nodes leases)) (B.Dictionary.frames leases)) (given (C.Dictionary.pairs events) (C.Dictionary.room events) (length (C.Dictionary.nodes events)) (C.Dictionary.frames events)) tape.now deeds.now outcomes.old outcomes.new (view_of (seen_as result.names.inside.shut 56 (A.Dictionary.pairs result.names.dictionary) (A.Dictionary.frames result.names.dictionary) result.names.inside) (seen_as result.leases.inside.shut 32 (B.Dictionary.pairs result.leases.dictionary) (B.Dictionary.frames result.leases.dictionary) result.leases.inside) (seen_as result.events.inside.shut 48 (C.Dictionary.pairs result.events.dictionary) (C.Dictionary.frames result.events.dictionary) result.events.inside)) }
+) -> PassBook<A, B, C>
+    ensures sound { ⟦<PassBook<A, B, C> as Ledger>⟧.sound result }
+    ensures season { SeasonNew (given (A.Dictionary.pairs names) (A.Dictionary.room names) (length (A.Dictionary.nodes names)) (A.Dictionary.frames names)) (given (B.Dictionary.pairs leases) (B.Dictionary.room leases) (length (B.Dictionary.nodes leases)) (B.Dictionary.frames leases)) (given (C.Dictionary.pairs events) (C.Dictionary.room events) (length (C.Dictionary.nodes events)) (C.Dictionary.frames events)) tape.now deeds.now outcomes.old outcomes.new (⟦<PassBook<A, B, C> as Ledger>⟧.view result) }
 {
     let mut book = new_book(names, leases, events);
     let count = deeds.len().min(outcomes.len());

@@ -2,8 +2,7 @@
 --
 --   track       two finds on a new index of zones, 21 adds up to a split, a last and a next, and seven removes up to a merge
 --   Seen        what is looked at in an answer: the outcome, the frames and the rebuilding
---   expected    that of each call of the track: 4 frames for a search, 5 for the first zone's and a zone in the first bucket of two,
---               and 18 more where a bucket is split or two are merged
+--   expected    that of each call of the track: 4 or 5 frames for its search, and 18 more where a bucket is split or two are merged
 --   Driven      the answers to the track: where the dictionary does not fit, each says that the index is shut
 use Rattle.std.specs.Prelude.{◌≡◌, ℕ, zero, suc, ◌+◌, Bool, true, false, List, [], ◌∷◌, ◌++◌, map, replicate, Ok, Err, Result}
 use Rattle.entry.specs.declared.Entry.{Entry}
