@@ -19,3 +19,4 @@ pub mod Spans
 pub mod Splits
 pub mod Removes
 pub mod Leave
+pub mod Same

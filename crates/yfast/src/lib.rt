@@ -5,7 +5,7 @@
 #![tactic(auto)]
 
 mod add;
-mod answers;
+mod bars;
 mod call;
 mod find;
 pub mod index;

@@ -2,7 +2,6 @@
 // fit gives a shut index, and is not touched.
 ghost use Rattle.std.specs.Prelude.{◌≡◌, true, false, length, is_some};
 ghost use Rattle.ordered.specs.Fitness.{fitness};
-ghost use Rattle.inside.specs.Whole.{Sound};
 ghost use Rattle.inside.specs.Making.{Bare, Made, Kept};
 
 use crate::index::YFast;
@@ -34,7 +33,6 @@ impl<K: Key, D: Dictionary> YFast<K, D> {
     // Sets up representative 0, where the dictionary fits.
     pub fn new(limit: u32, mut dictionary: D) -> YFast<K, D>
         ensures shut { result.inside.shut ≡ is_some (fitness K.Key.width limit (D.Dictionary.room dictionary) (length (D.Dictionary.nodes dictionary)) (D.Dictionary.frames dictionary)) }
-        ensures sound { Sound K.Key.width (D.Dictionary.pairs result.dictionary) (D.Dictionary.room result.dictionary) (D.Dictionary.frames result.dictionary) result.inside }
         ensures bare { Bare result.inside }
         ensures kept { result.inside.shut ≡ true → Kept dictionary result.inside result.dictionary }
         ensures made { result.inside.shut ≡ false → Made K.Key.width limit (D.Dictionary.room dictionary) result.inside (D.Dictionary.room result.dictionary) (D.Dictionary.frames result.dictionary) }

@@ -6,7 +6,6 @@ use Rattle.yfast.proofs.index.YFast.new.Goals as goal
 pub returns-in-Some : goal.returns-in-Some
 returns-in-Some g c = record {
   shut = ap is_some c.in-Some.ensures;
-  sound = tt;
   bare = fresh_bare c.new.result c.new-in-Some.result c.new.ensures 0 true;
   kept = λ _. record { limit = refl; dictionary = refl };
   made = λ e. absurd (true≢false e);
@@ -30,8 +29,18 @@ returns g c =
     let wide = g.met.K.Key.wide in
     record {
       shut = ap is_some c.in_default.ensures;
-      sound = fresh_whole t p e.fresh c.new-2.ensures w c.args.limit (g.D.Dictionary.room d) (g.D.Dictionary.frames d) (g.D.Dictionary.pairs d) e.sound f.small (omega (arith, f.enough, e.room));
       bare = fresh_bare t p e.fresh c.args.limit false;
       kept = λ h. absurd (false≢true h);
       made = λ _. record { limit = refl; room = e.room; tally = omega (arith, e.tally, f.unused) };
     }
+
+pub invariant_of-result-2 : goal.invariant_of-result-2
+invariant_of-result-2 g c =
+    let w = g.K.Key.width in
+    let t = c.make.result in
+    let p = c.new-2.result in
+    let d = c.make.new.d in
+    let e = c.make.ensures in
+    let given = c.args.dictionary in
+    let f = fitting w c.args.limit (g.D.Dictionary.room given) (length (g.D.Dictionary.nodes given)) (g.D.Dictionary.frames given) c.in_default.ensures in
+    record { sound = fresh_whole t p e.fresh c.new-2.ensures w c.args.limit (g.D.Dictionary.room d) (g.D.Dictionary.frames d) (g.D.Dictionary.pairs d) e.sound f.small (omega (arith, f.enough, e.room)) }
