@@ -18,7 +18,7 @@ impl<K: Key, D: Dictionary> YFast<K, D> {
         ensures shut { self.new.inside.shut ≡ self.old.inside.shut }
         ensures room { D.Dictionary.room self.new.dictionary ≡ D.Dictionary.room self.old.dictionary }
     {
-        if let Some(refusal) = self.bars(key, key) {
+        if let Err(refusal) = self.admits(key, key) {
             return Answer::refused(refusal, 0, 0);
         }
         let at = locate::<K, D>(&mut self.dictionary, &self.inside.table, key);

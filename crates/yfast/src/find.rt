@@ -15,7 +15,7 @@ impl<K: Key, D: Dictionary> YFast<K, D> {
         ensures inside { self.new.inside ≡ self.old.inside }
         ensures room { D.Dictionary.room self.new.dictionary ≡ D.Dictionary.room self.old.dictionary }
     {
-        if let Some(refusal) = self.bars(key, key) {
+        if let Err(refusal) = self.admits(key, key) {
             return Answer::refused(refusal, 0, 0);
         }
         let at = locate::<K, D>(&mut self.dictionary, &self.inside.table, key);

@@ -18,7 +18,7 @@ impl<K: Key, D: Dictionary> YFast<K, D> {
         ensures inside { self.new.inside ≡ self.old.inside }
         ensures room { D.Dictionary.room self.new.dictionary ≡ D.Dictionary.room self.old.dictionary }
     {
-        if let Some(refusal) = self.bars(first, second) {
+        if let Err(refusal) = self.admits(first, second) {
             return Answer::refused(refusal, 0, 0);
         }
         let at = locate::<K, D>(&mut self.dictionary, &self.inside.table, first);

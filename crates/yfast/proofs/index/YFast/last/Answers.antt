@@ -23,9 +23,9 @@ use Rattle.yfast.proofs.index.YFast.last.Goals as goal
 answer_with : Answer → Answered
 answer_with r = record { answer = r; places = [] }
 
-pub returns-in-Some : goal.returns-in-Some
+pub returns-in-Err : goal.returns-in-Err
 unfolding answer_with
-returns-in-Some g c =
+returns-in-Err g c =
     let k = c.args.key in
     let i = c.args.self.now.inside in
     let d = c.args.self.now.dictionary in
@@ -33,7 +33,7 @@ returns-in-Some g c =
     let f = g.D.Dictionary.pairs d in
     let room = g.D.Dictionary.room d in
     let tally = g.D.Dictionary.frames d in
-    let does = barred_does i.shut w f room tally i g.met.K.Key.wide.0 (g.met.D.Dictionary.counts d) refl c.args.self.now.sound (Last k) [] k k c.in-Some.refusal (one_key w k) c.in-Some.ensures in
+    let does = barred_does i.shut w f room tally i g.met.K.Key.wide.0 (g.met.D.Dictionary.counts d) refl c.args.self.now.sound (Last k) [] k k c.in-Err.refusal (one_key w k) c.in-Err.ensures in
     record {
       does = subst (λ r. Does i.shut w i.limit (state_of f tally i) (Last k) [] (answer_with r) (state_of f tally i)) (sym c.refused.ensures) does;
       inside = refl;

@@ -18,9 +18,9 @@ use Rattle.yfast.proofs.index.YFast.range.Goals as goal
 answer_with : List Entry → Answer → Answered
 answer_with ps r = record { answer = r; places = ps }
 
-pub returns-in-Some : goal.returns-in-Some
+pub returns-in-Err : goal.returns-in-Err
 unfolding answer_with
-returns-in-Some g c =
+returns-in-Err g c =
     let a = c.args.first in
     let b = c.args.second in
     let ps = c.args.places.now in
@@ -30,7 +30,7 @@ returns-in-Some g c =
     let f = g.D.Dictionary.pairs d in
     let room = g.D.Dictionary.room d in
     let tally = g.D.Dictionary.frames d in
-    let does = barred_does i.shut w f room tally i g.met.K.Key.wide.0 (g.met.D.Dictionary.counts d) refl c.args.self.now.sound (Range a b) ps a b c.in-Some.refusal refl c.in-Some.ensures in
+    let does = barred_does i.shut w f room tally i g.met.K.Key.wide.0 (g.met.D.Dictionary.counts d) refl c.args.self.now.sound (Range a b) ps a b c.in-Err.refusal refl c.in-Err.ensures in
     record {
       does = subst (λ r. Does i.shut w i.limit (state_of f tally i) (Range a b) ps (answer_with ps r) (state_of f tally i)) (sym c.refused.ensures) does;
       inside = refl;
