@@ -20,13 +20,7 @@ fn log_up(n: u32) -> u32
     ensures least { LogUp n result }
     ensures small { result ≤ 6 }
 {
-    let mut log = 0;
-    let mut power: u32 = 1;
-    while power < n {
-        power *= 2;
-        log += 1;
-    }
-    log
+    n.next_power_of_two().ilog2()
 }
 
 // q: the most frames of a level search, 1 + log2(width + 1) rounded up.
