@@ -1,5 +1,6 @@
 // The four kinds of keys: how they are made and read. Their numbers stay inside the ranges that the
-// ghost fields say, so that a key is always one of its kind's 2^w.
+// ghost fields say, so that a key is always one of its kind's 2^w. Their derived order is the kind's own.
+// They are made by `new` and `from_text` alone: `From` and `TryFrom` would be second names for these.
 ghost use Rattle.std.specs.Prelude.{◌≡◌, ℕ, ◌^◌, ◌<◌, ◌≤◌, length, MatchOption, slice_index};
 
 // A zone across the blade.

@@ -4,7 +4,7 @@ ghost use Rattle.std.specs.Prelude.{◌≡◌, ◌^◌};
 ghost use Rattle.key.specs.Kinds.{moment_bits, moment_of, moment_before, moment_at};
 ghost use Rattle.std.proofs.Common.{refl, arith, rules};
 ghost use Rattle.key.specs.Same.{moments};
-ghost use Rattle.key.specs.Within.{reads, read_from, all_read};
+ghost use Rattle.key.specs.Within.{reads, within_exact, within_every};
 ghost use Rattle.digits.proofs.Order.{first_then_bits};
 
 use crate::Key;
@@ -33,9 +33,9 @@ impl Key for Moment {
 
     ghost again = { λ k. reads moments _ k refl };
 
-    ghost exact = { read_from moments };
+    ghost exact = { within_exact _ _ _ moments.back };
 
-    ghost every = { all_read moments };
+    ghost every = { within_every (2 ^ 48) moment_at };
 
     ghost ordered = { λ a b. first_then_bits _ a.second a.sequence b.second b.sequence a.fits.1 b.fits.1 };
 

@@ -4,7 +4,7 @@ ghost use Rattle.std.proofs.Common.{refl, sym, ◌∙◌, rules, arith};
 ghost use Rattle.key.specs.Kinds.{name_bits, name_of, name_before, name_at};
 ghost use Rattle.key.specs.Same.{names};
 ghost use Rattle.digits.proofs.Sevens.{bytes_under};
-ghost use Rattle.key.specs.Within.{reads, read_from, all_read};
+ghost use Rattle.key.specs.Within.{reads, within_exact, within_every};
 ghost use Rattle.digits.proofs.Order.{bytes_compared, bytes_order};
 
 use crate::Key;
@@ -33,9 +33,9 @@ impl Key for Name {
 
     ghost again = { λ k. reads names _ k refl };
 
-    ghost exact = { read_from names };
+    ghost exact = { within_exact _ _ _ names.back };
 
-    ghost every = { all_read names };
+    ghost every = { within_every (2 ^ 56) name_at };
 
     ghost ordered = { λ a b. bytes_order a.bytes b.bytes (a.long ∙ sym b.long) (bytes_under a.bytes a.fits) (bytes_under b.bytes b.fits) };
 

@@ -10,7 +10,7 @@ pub fn half_width<K: Key>() -> u32
     ensures bounds { (4 ≤ result) × (result ≤ 30) }
     ensures rebuilding { 4 * (K.Key.width + 1) ≤ 9 * result }
 {
-    (K::bit_width() + 1) / 2
+    K::bit_width().div_ceil(2)
 }
 
 // log2 of n, rounded up.

@@ -3,7 +3,7 @@ ghost use Rattle.std.specs.Prelude.{◌≡◌, ◌^◌};
 ghost use Rattle.key.specs.Kinds.{station_bits, station_of, station_before, station_at};
 ghost use Rattle.std.proofs.Common.{refl, arith, rules};
 ghost use Rattle.key.specs.Same.{stations};
-ghost use Rattle.key.specs.Within.{reads, read_from, all_read};
+ghost use Rattle.key.specs.Within.{reads, within_exact, within_every};
 ghost use Rattle.digits.proofs.Order.{first_then_bits};
 
 use crate::Key;
@@ -32,9 +32,9 @@ impl Key for Station {
 
     ghost again = { λ k. reads stations _ k refl };
 
-    ghost exact = { read_from stations };
+    ghost exact = { within_exact _ _ _ stations.back };
 
-    ghost every = { all_read stations };
+    ghost every = { within_every (2 ^ 32) station_at };
 
     ghost ordered = { λ a b. first_then_bits _ a.piste a.decimetre b.piste b.decimetre a.fits.1 b.fits.1 };
 

@@ -1,9 +1,9 @@
 // Zones, in numeric order.
-ghost use Rattle.std.specs.Prelude.{◌≡◌};
+ghost use Rattle.std.specs.Prelude.{◌≡◌, ◌^◌};
 ghost use Rattle.key.specs.Kinds.{zone_bits, zone_of, zone_before, zone_at};
 ghost use Rattle.std.proofs.Common.{refl, arith, rules};
 ghost use Rattle.key.specs.Same.{zones};
-ghost use Rattle.key.specs.Within.{reads, read_from, all_read};
+ghost use Rattle.key.specs.Within.{reads, within_exact, within_every};
 
 use crate::Key;
 use crate::kinds::Zone;
@@ -31,9 +31,9 @@ impl Key for Zone {
 
     ghost again = { λ k. reads zones _ k refl };
 
-    ghost exact = { read_from zones };
+    ghost exact = { within_exact _ _ _ zones.back };
 
-    ghost every = { all_read zones };
+    ghost every = { within_every (2 ^ 8) zone_at };
 
     ghost ordered = { Prim.search rules };
 
