@@ -48,8 +48,10 @@ pub trait Key: Sized + Ord {
         self < other
     }
 
+    // the constant is the width
     ghost constant: { WIDTH ≡ width };
 
+    // the derived order is the kind's own
     ghost compared: { (a b : Self) → is_lt (Self.Ord.cmp a b) ≡ before a b };
 
     ghost wide: { (8 ≤ width) × (width ≤ 60) };

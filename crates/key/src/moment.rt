@@ -2,7 +2,7 @@
 // both would be no shorter than the two expressions here.
 ghost use Rattle.std.specs.Prelude.{◌≡◌, ◌^◌};
 ghost use Rattle.key.specs.Kinds.{moment_bits, moment_of, moment_before, moment_at};
-ghost use Rattle.std.proofs.Common.{refl, arith, rules};
+ghost use Rattle.std.proofs.Common.{refl, rules};
 ghost use Rattle.key.specs.Same.{moments};
 ghost use Rattle.key.specs.Within.{reads, within_exact, within_every};
 ghost use Rattle.digits.proofs.Order.{first_then_bits};

@@ -1,6 +1,6 @@
 // Names: byte by byte from the first.
 ghost use Rattle.std.specs.Prelude.{◌≡◌, ◌^◌};
-ghost use Rattle.std.proofs.Common.{refl, sym, ◌∙◌, rules, arith};
+ghost use Rattle.std.proofs.Common.{refl, sym, ◌∙◌, rules};
 ghost use Rattle.key.specs.Kinds.{name_bits, name_of, name_before, name_at};
 ghost use Rattle.key.specs.Same.{names};
 ghost use Rattle.digits.proofs.Sevens.{bytes_under};

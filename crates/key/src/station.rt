@@ -1,7 +1,7 @@
 // Stations: by piste, then by decimetre.
 ghost use Rattle.std.specs.Prelude.{◌≡◌, ◌^◌};
 ghost use Rattle.key.specs.Kinds.{station_bits, station_of, station_before, station_at};
-ghost use Rattle.std.proofs.Common.{refl, arith, rules};
+ghost use Rattle.std.proofs.Common.{refl, rules};
 ghost use Rattle.key.specs.Same.{stations};
 ghost use Rattle.key.specs.Within.{reads, within_exact, within_every};
 ghost use Rattle.digits.proofs.Order.{first_then_bits};

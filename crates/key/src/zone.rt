@@ -1,7 +1,7 @@
 // Zones, in numeric order.
 ghost use Rattle.std.specs.Prelude.{◌≡◌, ◌^◌};
 ghost use Rattle.key.specs.Kinds.{zone_bits, zone_of, zone_before, zone_at};
-ghost use Rattle.std.proofs.Common.{refl, arith, rules};
+ghost use Rattle.std.proofs.Common.{refl, rules};
 ghost use Rattle.key.specs.Same.{zones};
 ghost use Rattle.key.specs.Within.{reads, within_exact, within_every};
 
