@@ -13,7 +13,7 @@ use Rattle.std.proofs.lemmas.Bool.{cases_eq, cases_Bool, eq-eqb, ne_eqb, cond-tr
 use Rattle.dictionary.specs.Pairs.{among, apart}
 use Rattle.links.specs.Orders.{last_from, Behind, Neighbours, without, with_at, put_after}
 use Rattle.links.proofs.Orders.{Not, with_same, with_other, all_both, further, apart_parts}
-use Rattle.buckets.specs.Tables.{row, Seg, Row}
+use Rattle.buckets.specs.Rings.{row, Seg, Row}
 
 module _ (next prev : ℕ → ℕ) where
   pub seg_frame : (next' prev' : ℕ → ℕ) (x : ℕ) (ys : List ℕ) (z : ℕ) → AllByRecursion (λ n. next' n ≡ next n) (x ∷ ys) → AllByRecursion (λ n. prev' n ≡ prev n) ys → prev' z ≡ prev z → Seg next prev x ys z → Seg next' prev' x ys z

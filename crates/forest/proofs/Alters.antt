@@ -18,7 +18,6 @@ use Rattle.links.specs.Orders.{with_at}
 use Rattle.links.proofs.Orders.{all_among}
 use Rattle.buckets.specs.declared.Table.{Table}
 use Rattle.buckets.specs.Tables.{rep_of, size_of, root_of, prev_of, next_of, order_of, Reads}
-use Rattle.buckets.specs.Tables.{Standing as TableStands}
 use Rattle.buckets.proofs.Lays.{all_apart}
 use Rattle.trees.specs.Counts.{times}
 use Rattle.trees.specs.Trees.{entries, places}
@@ -65,7 +64,6 @@ used_long t p = over (order_of t)
         omega (arith, over ns, places_long (tree_of t p n), length-append (places_of t p n) (flat_map (places_of t p) ns), length-append (items_of t p n) (flat_map (items_of t p) ns))
 
 pub record Written (t u : Table) (roots sizes : ℕ → ℕ) : Type 0 where
-  pub stands : TableStands u
   pub order : order_of u ≡ order_of t
   pub rep : rep_of u ≡ rep_of t
   pub next : next_of u ≡ next_of t
@@ -73,13 +71,12 @@ pub record Written (t u : Table) (roots sizes : ℕ → ℕ) : Type 0 where
   pub root : root_of u ≡ roots
   pub size : size_of u ≡ sizes
 
-pub unwritten : (t : Table) → TableStands t → Written t t (root_of t) (size_of t)
-unwritten t s = record { stands = s; order = refl; rep = refl; next = refl; prev = refl; root = refl; size = refl }
+pub unwritten : (t : Table) → Written t t (root_of t) (size_of t)
+unwritten t = record { order = refl; rep = refl; next = refl; prev = refl; root = refl; size = refl }
 
-module _ {roots sizes : ℕ → ℕ} (t v u : Table) (n x : ℕ) (w : Written t v roots sizes) (s : TableStands u) (o : order_of u ≡ order_of v) where
+module _ {roots sizes : ℕ → ℕ} (t v u : Table) (n x : ℕ) (w : Written t v roots sizes) (o : order_of u ≡ order_of v) where
   pub root_set : Reads v u (rep_of v) (size_of v) (with_at (root_of v) n x) (prev_of v) (next_of v) → Written t u (with_at roots n x) sizes
   root_set r = record {
-    stands = s;
     order = o ∙ w.order;
     rep = r.rep ∙ w.rep;
     next = r.next ∙ w.next;
@@ -90,7 +87,6 @@ module _ {roots sizes : ℕ → ℕ} (t v u : Table) (n x : ℕ) (w : Written t 
 
   pub size_set : Reads v u (rep_of v) (with_at (size_of v) n x) (root_of v) (prev_of v) (next_of v) → Written t u roots (with_at sizes n x)
   size_set r = record {
-    stands = s;
     order = o ∙ w.order;
     rep = r.rep ∙ w.rep;
     next = r.next ∙ w.next;
@@ -131,7 +127,6 @@ module _ {roots sizes : ℕ → ℕ} (t : Table) (p : Pool) (u : Table) (q : Poo
 
   pub planted : AllByRecursion (λ n. Standing q.nodes (root_of u n)) ns → AllByRecursion (λ n. size_of u n ≡ length (items_of u q n)) ns → Shared (used u q) (free q) → Forest u q
   planted st sz sh = record {
-    table = a.table.stands;
     trees = everywhere (λ n. Standing q.nodes (root_of u n)) st others_stand;
     sizes = everywhere (λ n. size_of u n ≡ length (items_of u q n)) sz others_sized;
     shared = sh;
@@ -144,11 +139,11 @@ module _ {roots sizes : ℕ → ℕ} (t : Table) (p : Pool) (u : Table) (q : Poo
   one_moved n is i m =
       let h : (j : ℕ) → among j (order_of t) ≡ true → (j ≡ n → ⊥) → times m (places_of u q j) ≡ times m (places_of t p j) =
       λ j s ne. ap (λ z. times m (places z)) (others j s (subst (λ z. Far z j) (sym is) (ne, tt))) in
-      omega (arith, same_order m, shares.moved m (places_of t p) (places_of u q) (order_of t) n (all_apart t f.table) i h)
+      omega (arith, same_order m, shares.moved m (places_of t p) (places_of u q) (order_of t) n (all_apart t) i h)
 
   pub two_moved : (n k : ℕ) → ns ≡ n ∷ k ∷ [] → among n (order_of t) ≡ true → among k (order_of t) ≡ true → (n ≡ k → ⊥) → (m : ℕ) →
       times m (used u q) + times m (places_of t p n) + times m (places_of t p k) ≡ times m (used t p) + times m (places_of u q n) + times m (places_of u q k)
   two_moved n k is i j ne m =
       let h : (x : ℕ) → among x (order_of t) ≡ true → (x ≡ n → ⊥) → (x ≡ k → ⊥) → times m (places_of u q x) ≡ times m (places_of t p x) =
       λ x s a b. ap (λ z. times m (places z)) (others x s (subst (λ z. Far z x) (sym is) (a, (b, tt)))) in
-      omega (arith, same_order m, shares.two_moved m (places_of t p) (places_of u q) (order_of t) n k (all_apart t f.table) i j ne h)
+      omega (arith, same_order m, shares.two_moved m (places_of t p) (places_of u q) (order_of t) n k (all_apart t) i j ne h)

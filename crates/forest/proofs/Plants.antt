@@ -111,7 +111,7 @@ module _ (t : Table) (p : Pool) (n root key : ℕ) (f : Forest t p) (i : among n
     left_count m =
         let ps : List ℕ = places (tree_at ms r.root) in
         let G : ℕ → List ℕ = λ x. cond (eqb x n) ps (places_of t p x) in
-        let c = shares.moved m (places_of t p) G (order_of t) n (all_apart t f.table) i (λ x _ ne. ap (times m) (cond-false (eqb x n) ps (places_of t p x) (ne_eqb x n ne))) in
+        let c = shares.moved m (places_of t p) G (order_of t) n (all_apart t) i (λ x _ ne. ap (times m) (cond-false (eqb x n) ps (places_of t p x) (ne_eqb x n ne))) in
         omega (arith, c, ap (times m) (cond-true (eqb n n) ps (places_of t p n) (eq-eqb n n refl)))
 
     pub give_ready : Shared (r.gone ∷ left) (free p)

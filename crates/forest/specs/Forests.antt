@@ -17,7 +17,6 @@ use Rattle.rules.specs.Buckets.{Bucket}
 use Rattle.rows.specs.Rows.{row}
 use Rattle.buckets.specs.declared.Table.{Table}
 use Rattle.buckets.specs.Tables.{rep_of, size_of, root_of, prev_of, next_of, order_of}
-use Rattle.buckets.specs.Tables.{Standing as TableStands}
 use Rattle.trees.specs.Trees.{Tree, entries, places}
 use Rattle.trees.specs.Pools.{tree_at, Standing}
 use Rattle.avl.specs.declared.pool.Pool.{Pool}
@@ -42,7 +41,6 @@ abbrev pub used : Table → Pool → List ℕ
 used t p = flat_map (places_of t p) (order_of t)
 
 pub record Forest (t : Table) (p : Pool) : Type 0 where
-  pub table : TableStands t
   pub trees : AllByRecursion (λ n. Standing p.nodes (root_of t n)) (order_of t)
   pub sizes : AllByRecursion (λ n. size_of t n ≡ length (items_of t p n)) (order_of t)
   pub shared : Shared (used t p) (free p)

@@ -8,7 +8,6 @@ use Rattle.links.specs.Orders.{Behind}
 use Rattle.links.proofs.Orders.{cut}
 use Rattle.buckets.specs.declared.Table.{Table}
 use Rattle.buckets.specs.Tables.{next_of, order_of}
-use Rattle.buckets.specs.Tables.{Standing as TableStands}
 use Rattle.buckets.proofs.Lays.{neighbours}
 use Rattle.rules.specs.Buckets.{Rise, Spread, lowest}
 use Rattle.rules.proofs.Spreads.{spread_parts, rise_join, in_rise}
@@ -20,10 +19,10 @@ pub record Pair (order : List ℕ) (n m : ℕ) : Type 0 where
   pub post : List ℕ
   pub is : order ≡ pre ++ n ∷ m ∷ post
 
-pub pair : (t : Table) → TableStands t → (n : ℕ) → among n (order_of t) ≡ true → (next_of t n ≡ 0 → ⊥) → Pair (order_of t) n (next_of t n)
-pair t st n h ne =
+pub pair : (t : Table) → (n : ℕ) → among n (order_of t) ≡ true → (next_of t n ≡ 0 → ⊥) → Pair (order_of t) n (next_of t n)
+pair t n h ne =
     let c = cut (order_of t) n h in
-    made c.pre c.post c.is (neighbours t st c.pre n c.post c.is).1
+    made c.pre c.post c.is (neighbours t c.pre n c.post c.is).1
   where
     made : (pre post : List ℕ) → order_of t ≡ pre ++ n ∷ post → Behind post (next_of t n) → Pair (order_of t) n (next_of t n)
     made pre [] is b = absurd (ne b)

@@ -91,7 +91,6 @@ module _ (t : Table) (p : Pool) (f : Fresh t) where
   module _ (share : Shared [] (free p)) where
     fresh_forest : Forest t p
     fresh_forest = record {
-      table = f.stands;
       trees = in_order (λ n. Standing p.nodes (root_of t n)) (subst (Standing p.nodes) (sym f.root) (standing_none p.nodes (let h = p.whole in omega arith)));
       sizes = in_order (λ n. size_of t n ≡ length (items_of t p n)) (f.size ∙ sym (ap (λ x. length (entries x)) tree_first));
       shared = subst (λ xs. Shared xs (free p)) (sym unused_places) share;

@@ -9,7 +9,6 @@ use Rattle.links.specs.Orders.{holder, last_from, Before}
 use Rattle.links.proofs.Orders.{all_among}
 use Rattle.buckets.specs.declared.Table.{Table}
 use Rattle.buckets.specs.Tables.{rep_of, size_of, next_of, prev_of, order_of, rest_of}
-use Rattle.buckets.specs.Tables.{Standing as TableStands}
 use Rattle.buckets.proofs.Lays.{order_is, neighbours}
 use Rattle.avl.specs.declared.pool.Pool.{Pool}
 use Rattle.forest.specs.Forests.{Forest, items_of, tree_of, row_of, Replanted}
@@ -52,9 +51,9 @@ but_long : (x : ℕ) (xs : List ℕ) → length (all_but x xs) ≡ length xs
 but_long x [] = refl
 but_long x (y ∷ ys) = ap suc (but_long y ys)
 
-module _ (t : Table) (st : TableStands t) (pre : List ℕ) (n : ℕ) (post : List ℕ) (is : order_of t ≡ pre ++ n ∷ post) where
+module _ (t : Table) (pre : List ℕ) (n : ℕ) (post : List ℕ) (is : order_of t ≡ pre ++ n ∷ post) where
   pub partner_before : 0 < n → Partner (order_of t) pre (prev_of t n)
-  partner_before h = go pre is (neighbours t st pre n post is).0
+  partner_before h = go pre is (neighbours t pre n post is).0
     where
       go : (xs : List ℕ) → order_of t ≡ xs ++ n ∷ post → Before xs (prev_of t n) → Partner (order_of t) xs (prev_of t n)
       go [] e b = absurd (let q : 0 ∷ rest_of t ≡ n ∷ post = sym (order_is t) ∙ e in let z : 0 ≡ n = cc in omega arith)
@@ -68,7 +67,7 @@ module _ (t : Table) (st : TableStands t) (pre : List ℕ) (n : ℕ) (post : Lis
 
   pub partner_first : n ≡ 0 → 2 ≤ length (order_of t) → Partner (order_of t) pre 0
   partner_first z long =
-      let none = none_before t st pre n post is z in
+      let none = none_before t pre n post is z in
       go post (is ∙ (ap (λ p. p ++ n ∷ post) none ∙ ap (λ m. m ∷ post) z)) (ap length none)
     where
       go : (ys : List ℕ) → order_of t ≡ 0 ∷ ys → length pre ≡ 0 → Partner (order_of t) pre 0
@@ -78,12 +77,12 @@ module _ (t : Table) (st : TableStands t) (pre : List ℕ) (n : ℕ) (post : Lis
 pub partner_stands : (order pre : List ℕ) (left : ℕ) → Partner order pre left → among left order ≡ true
 partner_stands order pre left x = subst (λ o. among left o ≡ true) (sym x.is) (among_right left x.front (left ∷ x.other ∷ x.rest) (among_first left (x.other ∷ x.rest)))
 
-pub partner_next : (t : Table) → TableStands t → (pre : List ℕ) (left : ℕ) → Partner (order_of t) pre left → next_of t left ≡ 0 → ⊥
-partner_next t st pre left x z = omega (arith, ap length (none_behind t st x.front left (x.other ∷ x.rest) x.is z))
+pub partner_next : (t : Table) → (pre : List ℕ) (left : ℕ) → Partner (order_of t) pre left → next_of t left ≡ 0 → ⊥
+partner_next t pre left x z = omega (arith, ap length (none_behind t x.front left (x.other ∷ x.rest) x.is z))
 
 -- ---- the sizes of two neighbours, and what a merge makes of them
-pub few_orders : (t : Table) → TableStands t → length (order_of t) ≤ 128
-few_orders t st = omega (arith, ap length (order_is t), st.whole)
+pub few_orders : (t : Table) → length (order_of t) ≤ 128
+few_orders t = omega (arith, ap length (order_is t), t.stands.whole)
 
 module _ (t : Table) (p : Pool) (fo : Forest t p) (n m : ℕ) (pre post : List ℕ) (is : order_of t ≡ pre ++ n ∷ m ∷ post) where
   sized : (x : ℕ) → among x (order_of t) ≡ true → length (items_of t p x) ≡ size_of t x

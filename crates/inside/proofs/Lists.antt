@@ -37,7 +37,7 @@ module _ (w : ℕ) (f : Pairs) (room tally : ℕ) (i : Inside) (wide : w ≤ 60)
       let up : 2 ^ w ≤ 2 ^ 60 = pow_mono wide in
       let inner = in_rise _ _ xs (rise_flat (2 ^ w) (row_of i.table i.pool) wh.buckets.spread) in
       let is : onward i.table i.pool 0 ≡ xs =
-      onward_cut i.table i.pool wh.forest.table [] 0 (rest_of i.table) (order_is i.table)
+      onward_cut i.table i.pool [] 0 (rest_of i.table) (order_is i.table)
       ∙ (ap (flat_map (items_of i.table i.pool)) (sym (order_is i.table)) ∙ sym (row_flat (rep_of i.table) (items_of i.table i.pool) (order_of i.table))) in
       ap (between 0 18446744073709551615) is
       ∙ (ap (from 0) (upto_all _ _ 18446744073709551615 xs inner (omega (arith, up)))

@@ -58,7 +58,6 @@ module _ (t u v : Table) (p q : Pool) (n m : ℕ) (pre post : List ℕ) (cut : o
   forest_v =
       let out : (P : ℕ → Type 0) → AllByRecursion P (order_of u) → AllByRecursion P (order_of v) = λ P a. subst (AllByRecursion P) (sym (order_v ∙ sym (append_assoc pre (n ∷ []) post))) (all_out P m (pre ++ n ∷ []) post (subst (AllByRecursion P) order_u a)) in
       record {
-        table = sh.stands;
         trees = subst (λ (g : ℕ → ℕ). AllByRecursion (λ x. Standing q.nodes (g x)) (order_of v)) (sym sh.root) (out (λ x. Standing q.nodes (root_of u x)) un.forest.trees);
         sizes =
             subst (λ (h : ℕ → ℕ). AllByRecursion (λ x. h x ≡ length (items_of v q x)) (order_of v)) (sym sh.size)

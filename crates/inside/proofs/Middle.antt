@@ -11,7 +11,6 @@ use Rattle.links.proofs.Orders.{Not, rising_parts, rising_below}
 use Rattle.links.proofs.Found.{holder_at}
 use Rattle.buckets.specs.declared.Table.{Table}
 use Rattle.buckets.specs.Tables.{rep_of, order_of}
-use Rattle.buckets.specs.Tables.{Standing as TableStands}
 use Rattle.trie.specs.Sound.{Sound as TrieSound}
 use Rattle.rules.specs.Buckets.{lowest, Spread}
 use Rattle.rules.proofs.Moves.{rise_split}
@@ -42,9 +41,8 @@ middle w rep items n pre post sp rises two =
     record { above = up; fits = omega (arith, r.3); behind = sym (holder_at rep mid pre n post (omega arith) over) }
 
 -- a table that keeps its order and representatives goes on to fit the dictionary
-pub trie_kept : (w : ℕ) (f : Pairs) (t u : Table) → TrieSound w f t → TableStands u → order_of u ≡ order_of t → rep_of u ≡ rep_of t → TrieSound w f u
-trie_kept w f t u so st o r = record {
-  table = st;
+pub trie_kept : (w : ℕ) (f : Pairs) (t u : Table) → TrieSound w f t → order_of u ≡ order_of t → rep_of u ≡ rep_of t → TrieSound w f u
+trie_kept w f t u so o r = record {
   ordered = subst (λ (g : ℕ → ℕ). Ordered w g (order_of u)) (sym r) (subst (Ordered w (rep_of t)) (sym o) so.ordered);
   first = ap (λ g. g 0) r ∙ so.first;
   pairs = so.pairs ∙ (ap (λ (g : ℕ → ℕ). links w g (order_of t)) (sym r) ∙ ap (links w (rep_of u)) (sym o));

@@ -11,7 +11,6 @@ use Rattle.links.proofs.Orders.{Not, all_among, apart_parts, all_parts}
 use Rattle.avl.specs.declared.pool.Pool.{Pool}
 use Rattle.buckets.specs.declared.Table.{Table}
 use Rattle.buckets.specs.Tables.{next_of, prev_of, root_of, rest_of, order_of}
-use Rattle.buckets.specs.Tables.{Standing as TableStands}
 use Rattle.buckets.proofs.Chains.{next_all, prev_all}
 use Rattle.buckets.proofs.Lays.{order_is, neighbours, all_apart, later}
 use Rattle.forest.specs.Forests.{Forest, tree_of, items_of}
@@ -28,20 +27,20 @@ behind_all : (P : ℕ → Type 0) (rest pre : List ℕ) (n : ℕ) (post : List �
 behind_all P rest [] n post e a = let q : rest ≡ post = cc in subst (AllByRecursion P) q a
 behind_all P rest (x ∷ pre) n post e a = let q : rest ≡ pre ++ n ∷ post = cc in (all_parts P pre (n ∷ post) (subst (AllByRecursion P) q a)).1.1
 
-module _ (t : Table) (s : TableStands t) where
+module _ (t : Table) where
   order_not_zero : AllByRecursion (Not 0) (rest_of t)
-  order_not_zero = (apart_parts 0 (rest_of t) (sym (ap apart (order_is t)) ∙ all_apart t s)).0
+  order_not_zero = (apart_parts 0 (rest_of t) (sym (ap apart (order_is t)) ∙ all_apart t)).0
 
   -- what holds of each bucket holds of a neighbour
   pub next_has : (P : ℕ → Type 0) (n : ℕ) → among n (order_of t) ≡ true → AllByRecursion P (order_of t) → P (next_of t n)
   next_has P n held a =
       let b = subst (AllByRecursion P) (order_is t) a in
-      next_all (next_of t) (prev_of t) P n 0 (rest_of t) 0 s.ring (sym (ap (among n) (order_is t)) ∙ held) b.1 b.0
+      next_all (next_of t) (prev_of t) P n 0 (rest_of t) 0 t.stands.ring (sym (ap (among n) (order_is t)) ∙ held) b.1 b.0
 
   pub prev_has : (P : ℕ → Type 0) (n : ℕ) → among n (order_of t) ≡ true → 0 < n → AllByRecursion P (order_of t) → P (prev_of t n)
   prev_has P n held h a =
       let b = subst (AllByRecursion P) (order_is t) a in
-      prev_all (next_of t) (prev_of t) P n 0 (rest_of t) 0 s.ring (later t s n h held) b.0 b.1
+      prev_all (next_of t) (prev_of t) P n 0 (rest_of t) 0 t.stands.ring (later t n h held) b.0 b.1
 
   module _ (pre : List ℕ) (n : ℕ) (post : List ℕ) (is : order_of t ≡ pre ++ n ∷ post) where
     cut_is : 0 ∷ rest_of t ≡ pre ++ n ∷ post
@@ -49,14 +48,14 @@ module _ (t : Table) (s : TableStands t) where
 
     -- nothing is behind where the next number is 0, and otherwise that number is
     pub none_behind : next_of t n ≡ 0 → post ≡ []
-    none_behind z = go post (neighbours t s pre n post is).1 (behind_all (Not 0) (rest_of t) pre n post cut_is order_not_zero)
+    none_behind z = go post (neighbours t pre n post is).1 (behind_all (Not 0) (rest_of t) pre n post cut_is order_not_zero)
       where
         go : (ys : List ℕ) → Behind ys (next_of t n) → AllByRecursion (Not 0) ys → ys ≡ []
         go [] b a = refl
         go (y ∷ ys) b a = absurd (a.0 (sym b ∙ z))
 
     pub some_behind : (next_of t n ≡ 0 → ⊥) → {X : Type 0} (d : X) (f : ℕ → X) → ahead d f post ≡ f (next_of t n)
-    some_behind z d f = go post (neighbours t s pre n post is).1
+    some_behind z d f = go post (neighbours t pre n post is).1
       where
         go : (ys : List ℕ) → Behind ys (next_of t n) → ahead d f ys ≡ f (next_of t n)
         go [] b = absurd (z b)
@@ -71,7 +70,7 @@ module _ (t : Table) (s : TableStands t) where
         go (x ∷ xs) e = let q : rest_of t ≡ xs ++ n ∷ post = cc in absurd ((all_parts (Not 0) xs (n ∷ post) (subst (AllByRecursion (Not 0)) q order_not_zero)).1.0 z)
 
     pub some_before : 0 < n → {X : Type 0} (d : X) (f : ℕ → X) → back d f pre ≡ f (prev_of t n)
-    some_before h d f = go pre cut_is (neighbours t s pre n post is).0
+    some_before h d f = go pre cut_is (neighbours t pre n post is).0
       where
         go : (xs : List ℕ) → 0 ∷ rest_of t ≡ xs ++ n ∷ post → Before xs (prev_of t n) → back d f xs ≡ f (prev_of t n)
         go [] e b = absurd (let q : 0 ≡ n = cc in omega arith)
@@ -116,10 +115,10 @@ module _ (t : Table) (p : Pool) (fo : Forest t p) (n : ℕ) (held : among n (ord
   here_stands r e = subst (Standing p.nodes) (sym e) (all_among (λ m. Standing p.nodes (root_of t m)) (order_of t) n fo.trees held)
 
   pub next_stands : (m r : ℕ) → m ≡ next_of t n → r ≡ root_of t m → Standing p.nodes r
-  next_stands m r em e = subst (Standing p.nodes) (sym (e ∙ ap (root_of t) em)) (next_has t fo.table (λ m. Standing p.nodes (root_of t m)) n held fo.trees)
+  next_stands m r em e = subst (Standing p.nodes) (sym (e ∙ ap (root_of t) em)) (next_has t (λ m. Standing p.nodes (root_of t m)) n held fo.trees)
 
   pub prev_stands : (m r : ℕ) → 0 < n → m ≡ prev_of t n → r ≡ root_of t m → Standing p.nodes r
-  prev_stands m r h em e = subst (Standing p.nodes) (sym (e ∙ ap (root_of t) em)) (prev_has t fo.table (λ m. Standing p.nodes (root_of t m)) n held h fo.trees)
+  prev_stands m r h em e = subst (Standing p.nodes) (sym (e ∙ ap (root_of t) em)) (prev_has t (λ m. Standing p.nodes (root_of t m)) n held h fo.trees)
 
 -- the visits of two trees fit
 pub few_visits : (p : Pool) (r₁ r₂ v₁ v₂ : ℕ) → Standing p.nodes r₁ → Standing p.nodes r₂ → v₁ ≤ tall (tree_at p.nodes r₁) → v₂ ≤ tall (tree_at p.nodes r₂) → v₁ + v₂ ≤ 24
@@ -144,7 +143,7 @@ module _ (t : Table) (p : Pool) (fo : Forest t p) (n k : ℕ) (pre post : List �
   above_end h r m e w em z =
       let xs = from k (items_of t p n) in
       let v = subst (HereAbove h) e w in
-      subst (Above h t p n k) (sym (none_behind t fo.table pre n post is (sym em ∙ z)))
+      subst (Above h t p n k) (sym (none_behind t pre n post is (sym em ∙ z)))
       (record { entry = v.entry ∙ ap foremost (sym (append-nil xs)); visits = omega (arith, v.visits, nothing_else (filled xs)) })
 
   pub above_there : (h g : Found) (r m q : ℕ) → r ≡ root_of t n → HereAbove h r → is_some h.entry ≡ false → m ≡ next_of t n → (m ≡ 0 → ⊥) →
@@ -158,8 +157,8 @@ module _ (t : Table) (p : Pool) (fo : Forest t p) (n k : ℕ) (pre post : List �
       let y = subst (λ r. Saw g (foremost (entries_at p.nodes r)) (low_way (tree_at p.nodes r)) (tree_at p.nodes r)) at u in
       let there : next_of t n ≡ 0 → ⊥ = λ e. z (em ∙ e) in
       record {
-        entry = y.entry ∙ (ap foremost (sym (some_behind t fo.table pre n post is there [] (items_of t p))) ∙ front_none xs _ f);
-        visits = omega (arith, v.visits, y.visits, ap low_way (some_behind t fo.table pre n post is there leaf (tree_of t p)), cond-false (filled xs) 0 (low_way (ahead leaf (tree_of t p) post)) f);
+        entry = y.entry ∙ (ap foremost (sym (some_behind t pre n post is there [] (items_of t p))) ∙ front_none xs _ f);
+        visits = omega (arith, v.visits, y.visits, ap low_way (some_behind t pre n post is there leaf (tree_of t p)), cond-false (filled xs) 0 (low_way (ahead leaf (tree_of t p) post)) f);
       }
 
   pub below_here : (h : Found) (r : ℕ) → r ≡ root_of t n → HereBelow h r → is_some h.entry ≡ true → Below h t p n k pre
@@ -173,7 +172,7 @@ module _ (t : Table) (p : Pool) (fo : Forest t p) (n k : ℕ) (pre post : List �
   below_end h r e w z =
       let xs = upto k (items_of t p n) in
       let v = subst (HereBelow h) e w in
-      subst (Below h t p n k) (sym (none_before t fo.table pre n post is z))
+      subst (Below h t p n k) (sym (none_before t pre n post is z))
       (record { entry = v.entry; visits = omega (arith, v.visits, nothing_else (filled xs)) })
 
   pub below_there : (h g : Found) (r m q : ℕ) → r ≡ root_of t n → HereBelow h r → is_some h.entry ≡ false → 0 < n → m ≡ prev_of t n →
@@ -186,6 +185,6 @@ module _ (t : Table) (p : Pool) (fo : Forest t p) (n k : ℕ) (pre post : List �
       let at : q ≡ root_of t (prev_of t n) = eq ∙ ap (root_of t) em in
       let y = subst (λ r. Saw g (hindmost (entries_at p.nodes r)) (high_way (tree_at p.nodes r)) (tree_at p.nodes r)) at u in
       record {
-        entry = y.entry ∙ (ap hindmost (sym (some_before t fo.table pre n post is z [] (items_of t p))) ∙ rear_none _ xs f);
-        visits = omega (arith, v.visits, y.visits, ap high_way (some_before t fo.table pre n post is z leaf (tree_of t p)), cond-false (filled xs) 0 (high_way (back leaf (tree_of t p) pre)) f);
+        entry = y.entry ∙ (ap hindmost (sym (some_before t pre n post is z [] (items_of t p))) ∙ rear_none _ xs f);
+        visits = omega (arith, v.visits, y.visits, ap high_way (some_before t pre n post is z leaf (tree_of t p)), cond-false (filled xs) 0 (high_way (back leaf (tree_of t p) pre)) f);
       }

@@ -66,7 +66,6 @@ module _ (t u : Table) (p : Pool) (n m r : ℕ) (pre post : List ℕ) (fo : Fore
 
   pub forest_opened : Forest u p
   forest_opened = record {
-    table = sh.stands;
     trees = subst (AllByRecursion (λ x. Standing p.nodes (root_of u x))) (sym order_opened)
         (all_insert (λ x. Standing p.nodes (root_of t x)) (λ x. Standing p.nodes (root_of u x)) n m pre post
         (λ x o s. subst (Standing p.nodes) (sym (root_other x o)) s) others_not (subst (AllByRecursion (λ x. Standing p.nodes (root_of t x))) cut fo.trees)

@@ -10,7 +10,6 @@ use Rattle.levels.specs.Counts.{searching}
 use Rattle.avl.specs.declared.pool.Pool.{Pool}
 use Rattle.buckets.specs.declared.Table.{Table}
 use Rattle.buckets.specs.Tables.{rep_of, order_of}
-use Rattle.buckets.specs.Tables.{Standing as TableStands}
 use Rattle.ordered.specs.declared.calls.Answer.{Answer}
 use Rattle.ordered.specs.declared.calls.Call.TheVariants.{Range}
 use Rattle.ordered.specs.declared.calls.Rebuilding.TheVariants.{Unchanged}
@@ -35,9 +34,9 @@ use Rattle.inside.proofs.Spans.{since_at}
 abbrev pub wrote : ℕ → ℕ → Answer
 wrote number frames = record { outcome = Ok blank; number = number; frames = frames; visits = 0; rebuilding = Unchanged }
 
-pub onward_cut : (t : Table) (p : Pool) → TableStands t → (pre : List ℕ) (n : ℕ) (post : List ℕ) → order_of t ≡ pre ++ n ∷ post → onward t p n ≡ flat_map (items_of t p) (n ∷ post)
+pub onward_cut : (t : Table) (p : Pool) → (pre : List ℕ) (n : ℕ) (post : List ℕ) → order_of t ≡ pre ++ n ∷ post → onward t p n ≡ flat_map (items_of t p) (n ∷ post)
 unfolding onward
-onward_cut t p s pre n post is = ap (flat_map (items_of t p)) (since_at t s pre n post is)
+onward_cut t p pre n post is = ap (flat_map (items_of t p)) (since_at t pre n post is)
 
 -- ---- no more entries than an index has
 since_fewer : (f : ℕ → List Entry) (n : ℕ) (xs : List ℕ) → length (flat_map f (since n xs)) ≤ length (flat_map f xs)
@@ -82,7 +81,7 @@ module _ (w : ℕ) (f : Pairs) (room tally : ℕ) (i : Inside) (big : 8 ≤ w) (
   range_step a b ps n m c x none told frames seen still h up =
       let items = items_of i.table i.pool in
       let is = range_served (rep_of i.table) items (tree_of i.table i.pool) (order_of i.table) a m c w i.limit b ps in
-      let all = onward_cut i.table i.pool wh.forest.table c.pre m c.post c.is in
+      let all = onward_cut i.table i.pool c.pre m c.post c.is in
       let told_all = subst (λ xs. told_by x ≡ writes (no_range (length (between a b xs)) (length ps)) (between a b xs) ps) all told in
       let o : Obeys x (row_of i.table i.pool) (step w i.limit (Range a b) ps (row_of i.table i.pool)) =
       rw (none, is) (record { told = told_all; frames = frames; rebuilding = still; after = refl }) in

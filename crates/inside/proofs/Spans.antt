@@ -16,7 +16,6 @@ use Rattle.links.proofs.Pigeon.{among_append}
 use Rattle.avl.specs.declared.pool.Pool.{Pool}
 use Rattle.buckets.specs.declared.Table.{Table}
 use Rattle.buckets.specs.Tables.{next_of, root_of, order_of}
-use Rattle.buckets.specs.Tables.{Standing as TableStands}
 use Rattle.buckets.proofs.Lays.{neighbours, all_apart, order_long}
 use Rattle.forest.specs.Forests.{Forest, items_of}
 use Rattle.trees.specs.Pools.{entries_at}
@@ -41,9 +40,9 @@ since_short n (x ∷ xs) = elim (cases_Bool (eqb x n)) [
   | inr e ↦ rw e (omega (arith, since_short n xs))
 ]
 
-module _ (t : Table) (s : TableStands t) where
+module _ (t : Table) where
   pub since_at : (pre : List ℕ) (n : ℕ) (post : List ℕ) → order_of t ≡ pre ++ n ∷ post → since n (order_of t) ≡ n ∷ post
-  since_at pre n post is = ap (since n) is ∙ since_cut n pre post (sym (ap apart is) ∙ all_apart t s)
+  since_at pre n post is = ap (since n) is ∙ since_cut n pre post (sym (ap apart is) ∙ all_apart t)
 
   held_at : (pre : List ℕ) (n : ℕ) (post : List ℕ) → order_of t ≡ pre ++ n ∷ post → among n (order_of t) ≡ true
   held_at pre n post is = ap (among n) is ∙ (among_append n pre (n ∷ post) ∙ or_right (among n pre) _ (or_left (eqb n n) (among n post) (eq-eqb n n refl)))
@@ -51,7 +50,7 @@ module _ (t : Table) (s : TableStands t) where
   since_last : (n : ℕ) → among n (order_of t) ≡ true → next_of t n ≡ 0 → since n (order_of t) ≡ n ∷ []
   since_last n held z =
       let c = cut (order_of t) n held in
-      since_at c.pre n c.post c.is ∙ ap (λ l. n ∷ l) (none_behind t s c.pre n c.post c.is z)
+      since_at c.pre n c.post c.is ∙ ap (λ l. n ∷ l) (none_behind t c.pre n c.post c.is z)
 
   -- the number behind stands too, and the order goes on from it
   record Onto (n : ℕ) : Type 0 where
@@ -61,7 +60,7 @@ module _ (t : Table) (s : TableStands t) where
   since_next : (n : ℕ) → among n (order_of t) ≡ true → (next_of t n ≡ 0 → ⊥) → Onto n
   since_next n held z =
       let c = cut (order_of t) n held in
-      go c.pre c.post c.is (neighbours t s c.pre n c.post c.is).1
+      go c.pre c.post c.is (neighbours t c.pre n c.post c.is).1
     where
       go : (pre post : List ℕ) → order_of t ≡ pre ++ n ∷ post → Behind post (next_of t n) → Onto n
       go pre [] is b = absurd (z b)
@@ -73,7 +72,7 @@ module _ (t : Table) (s : TableStands t) where
           }
 
   since_few : (n : ℕ) → length (since n (order_of t)) ≤ 128
-  since_few n = omega (arith, since_short n (order_of t), order_long t s, s.count, s.whole)
+  since_few n = omega (arith, since_short n (order_of t), order_long t, t.stands.count, t.stands.whole)
 
   since_some : (n : ℕ) → among n (order_of t) ≡ true → 1 ≤ length (since n (order_of t))
   since_some n held = let c = cut (order_of t) n held in omega (arith, ap length (since_at c.pre n c.post c.is))
@@ -103,27 +102,27 @@ module _ (t : Table) (p : Pool) (fo : Forest t p) (a b : ℕ) where
   span_last : (n root : ℕ) → among n (order_of t) ≡ true → root ≡ root_of t n → next_of t n ≡ 0 → spanned n ≡ between a b (entries_at p.nodes root)
   unfolding onward
   span_last n root held e z =
-      ap (between a b) (ap (flat_map (items_of t p)) (since_last t fo.table n held z) ∙ append-nil (items_of t p n))
+      ap (between a b) (ap (flat_map (items_of t p)) (since_last t n held z) ∙ append-nil (items_of t p n))
       ∙ ap (λ r. between a b (entries_at p.nodes r)) (sym e)
 
   span_next : (n root : ℕ) → among n (order_of t) ≡ true → root ≡ root_of t n → (next_of t n ≡ 0 → ⊥) → spanned n ≡ between a b (entries_at p.nodes root) ++ spanned (next_of t n)
   unfolding onward
   span_next n root held e z =
-      ap (between a b) (ap (flat_map (items_of t p)) (since_next t fo.table n held z).is)
+      ap (between a b) (ap (flat_map (items_of t p)) (since_next t n held z).is)
       ∙ (between_append a b (items_of t p n) (onward t p (next_of t n))
       ∙ ap (λ r. between a b (entries_at p.nodes r) ++ spanned (next_of t n)) (sym e))
 
   pub walk_starts : (n : ℕ) → among n (order_of t) ≡ true → Walking t n 0
-  walk_starts n held = record { held = held; left = omega (arith, since_few t fo.table n) }
+  walk_starts n held = record { held = held; left = omega (arith, since_few t n) }
 
   pub walk_goes : (at turn next : ℕ) → Walking t at turn → next ≡ next_of t at → (next ≡ 0 → ⊥) → Walking t next (turn + 1)
   walk_goes at turn next w e z =
-      let o = since_next t fo.table at w.held (λ q. z (e ∙ q)) in
+      let o = since_next t at w.held (λ q. z (e ∙ q)) in
       subst (λ m. Walking t m (turn + 1)) (sym e) (record { held = o.held; left = omega (arith, w.left, ap length o.is) })
 
   -- no order has more than 128 numbers
   pub walk_ends : (at turn : ℕ) → Walking t at turn → 128 ≤ turn → ⊥
-  walk_ends at turn w h = omega (arith, w.left, since_some t fo.table at w.held)
+  walk_ends at turn w h = omega (arith, w.left, since_some t at w.held)
 
   pub counting_starts : (n : ℕ) → among n (order_of t) ≡ true → Counting t p a b n n 0 0
   counting_starts n held = record { walk = walk_starts n held; few = omega arith; rest = omega arith }

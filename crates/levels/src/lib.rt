@@ -17,7 +17,7 @@ use dictionary::Dictionary;
 use key::Key;
 
 // Where a search ended: the deepest level with a pair, its links, and the frames made.
-#[derive(Clone, Copy)]
+#[derive(Clone, Copy, PartialEq, Eq, Debug)]
 pub struct Found {
     pub level: u32,
     pub low: u16,
@@ -50,15 +50,13 @@ pub fn search<K: Key, D: Dictionary>(d: &mut D, bits: u64) -> Found
     ensures room { D.Dictionary.room d.new ≡ D.Dictionary.room d.old }
 {
     let width = K::bit_width();
-    let root = d.get(1);
-    let Some((first, last)) = root else {
+    let Some((mut low, mut high)) = d.get(1) else {
         return unreachable();
     };
-    let mut low = first;
-    let mut high = last;
     let mut lo: u32 = 0;
     let mut hi: u32 = width + 1;
     let mut frames: u16 = 1;
+    // A halving, not a count of indices: a level's frame is a get of its own, so no search of a slice does it.
     while hi - lo > 1 {
         let mid = (lo + hi) / 2;
         let node = node_at(width, bits, mid);

@@ -64,7 +64,7 @@ module _ (w : ℕ) (f : Pairs) (t : Table) (s : Sound w f t) where
   pub choice : (v k level low high : ℕ) → v ≡ w → k < 2 ^ w → f (node_at w k level) ≡ Some (low, high) → Deepest (held f w k) w level → chosen v k level low high (prev_of t) ≡ holder (rep_of t) (order_of t) k
   choice v k level low high width h e d =
       ap (λ x. chosen x k level low high (prev_of t)) width ∙ chosen_holds w (rep_of t) (order_of t) k s.ordered zero_first h level low high (ap (λ g. g (node_at w k level)) (sym s.pairs) ∙ e)
-      (subst (λ g. Deepest (held g w k) w level) s.pairs d) (next_of t) (prev_of t) (neighbours t s.table)
+      (subst (λ g. Deepest (held g w k) w level) s.pairs d) (next_of t) (prev_of t) (neighbours t)
 
   pub holder_among : (k : ℕ) → among (holder (rep_of t) (order_of t) k) (order_of t) ≡ true
   holder_among k =
@@ -75,10 +75,10 @@ module _ (w : ℕ) (f : Pairs) (t : Table) (s : Sound w f t) where
   counted k h = ap (λ g. 1 + gets (held g w k) 0 (w + 1)) s.pairs ∙ frames_present w (rep_of t) (order_of t) k h s.ordered.fits
 
   pub numbers : (n low high : ℕ) → f n ≡ Some (low, high) → (low < 128) × (high < 128)
-  numbers n low high e = links_all (λ i. i < 128) w (rep_of t) (order_of t) n low high (all_small t s.table) (ap (λ g. g n) (sym s.pairs) ∙ e)
+  numbers n low high e = links_all (λ i. i < 128) w (rep_of t) (order_of t) n low high (all_small t) (ap (λ g. g n) (sym s.pairs) ∙ e)
 
   pub same_pairs : (g : Pairs) → g ≡ f → Sound w g t
-  same_pairs g e = record { table = s.table; ordered = s.ordered; first = s.first; pairs = e ∙ s.pairs }
+  same_pairs g e = record { ordered = s.ordered; first = s.first; pairs = e ∙ s.pairs }
 
   pub sound_count : (nodes : List ℕ) → apart nodes ≡ true → ((n : ℕ) → is_some (f n) ≡ among n nodes) → length nodes ≡ node_count w (reps_of t)
   sound_count nodes once has = held_count w (rep_of t) (order_of t) s.ordered nodes f once has s.pairs
@@ -118,7 +118,6 @@ module _ (w : ℕ) (f : Pairs) (t : Table) (s : Sound w f t) where
 
     pub opened_sound : (g : Pairs) → g ≡ links w (rep_of u) (order_of u) → Sound w g u
     opened_sound g e = record {
-      table = o.stands;
       ordered = opened_ordered;
       first = ap (λ h. h 0) o.rep ∙ with_other (rep_of t) n r 0 (subst (AllByRecursion (Not n)) (order_is t) others).0 ∙ s.first;
       pairs = e;
@@ -127,7 +126,6 @@ module _ (w : ℕ) (f : Pairs) (t : Table) (s : Sound w f t) where
   -- ---- the bucket n taken away, and its record closed
   pub closed_sound : (g : Pairs) (u : Table) (n : ℕ) → Shows u (without n (order_of t)) (rep_of t) (size_of t) (root_of t) → g ≡ links w (rep_of t) (without n (order_of t)) → Sound w g u
   closed_sound g u n c e = record {
-    table = c.stands;
     ordered = subst (λ l. Ordered w (rep_of u) l) (sym c.order) (subst (λ h. Ordered w h (without n (order_of t))) (sym c.rep) (ordered_without w (rep_of t) (order_of t) n s.ordered));
     first = ap (λ h. h 0) c.rep ∙ s.first;
     pairs = e ∙ ap (λ h. links w h (without n (order_of t))) (sym c.rep) ∙ ap (links w (rep_of u)) (sym c.order);

@@ -24,7 +24,7 @@ use turns::set_up::set_up;
 use turns::take_away::take_away;
 
 // A bucket's number, and the frames that came with it.
-#[derive(Clone, Copy)]
+#[derive(Clone, Copy, PartialEq, Eq, Debug)]
 pub struct Located {
     pub number: u16,
     pub frames: u16,
@@ -50,7 +50,6 @@ pub fn make<K: Key, D: Dictionary>(d: &mut D) -> Table
 fn choose(table: &Table, width: u32, bits: u64, found: Found) -> u16
     requires wide { width ≤ 60 }
     requires level { found.level ≤ width }
-    requires long { length table.now.records ≡ 128 }
     requires within { found.low < 128 }
     ensures { result ≡ chosen width bits found.level found.low found.high (prev_of table.now) }
 {

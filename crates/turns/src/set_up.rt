@@ -5,7 +5,7 @@ ghost use Rattle.dictionary.specs.Pairs.{with_pair, among, raised};
 ghost use Rattle.levels.specs.Counts.{turning};
 ghost use Rattle.links.specs.Orders.{without, Ordered};
 ghost use Rattle.links.specs.Links.{links, joined, joins, node_count};
-ghost use Rattle.buckets.specs.Tables.{rep_of, order_of, Standing};
+ghost use Rattle.buckets.specs.Tables.{rep_of, order_of};
 
 use buckets::Table;
 use dictionary::Dictionary;
@@ -15,7 +15,6 @@ use levels::node_at;
 // One node: a get, and a put if its pair is new or alters. The frames made are answered.
 fn join_at<D: Dictionary>(d: &mut D, table: &Table, node: u64, number: u16) -> u16
     requires node { 0 < node }
-    requires long { length table.now.records ≡ 128 }
     requires within { number < 128 }
     requires links { (low high : ℕ) → D.Dictionary.pairs d.old node ≡ Some (low, high) → (low < 128) × (high < 128) }
     requires room { D.Dictionary.pairs d.old node ≡ None → length (D.Dictionary.nodes d.old) < D.Dictionary.room d.old }
@@ -47,7 +46,6 @@ fn join_at<D: Dictionary>(d: &mut D, table: &Table, node: u64, number: u16) -> u
 
 // Each level from the root down. No put is refused while all the nodes of the order have room.
 pub fn set_up<K: Key, D: Dictionary>(d: &mut D, table: &Table, number: u16) -> u16
-    requires stands { Standing table.now }
     requires ordered { Ordered K.Key.width (rep_of table.now) (order_of table.now) }
     requires held { among number (order_of table.now) ≡ true }
     requires pairs { D.Dictionary.pairs d.old ≡ links K.Key.width (rep_of table.now) (without number (order_of table.now)) }
@@ -62,7 +60,8 @@ pub fn set_up<K: Key, D: Dictionary>(d: &mut D, table: &Table, number: u16) -> u
     let width = K::bit_width();
     let rep = table.rep(number);
     let mut frames: u16 = 0;
-    for level in 0..width + 1 {
+    // `take_away` walks so too: shared, the walk would take all clauses of `join_at` again, with its step as a closure.
+    for level in 0..=width {
         let node = node_at(width, rep, level);
         frames += join_at(d, table, node, number);
     }

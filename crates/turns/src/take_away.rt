@@ -5,7 +5,7 @@ ghost use Rattle.dictionary.specs.Pairs.{with_pair, among, raised};
 ghost use Rattle.levels.specs.Counts.{turning};
 ghost use Rattle.links.specs.Orders.{without, Ordered};
 ghost use Rattle.links.specs.Links.{links, parted, parts, node_count};
-ghost use Rattle.buckets.specs.Tables.{rep_of, prev_of, next_of, order_of, Standing};
+ghost use Rattle.buckets.specs.Tables.{rep_of, prev_of, next_of, order_of};
 
 use buckets::Table;
 use dictionary::Dictionary;
@@ -16,7 +16,6 @@ use levels::node_at;
 // to the neighbour. The frames made are answered.
 fn part_at<D: Dictionary>(d: &mut D, table: &Table, node: u64, number: u16) -> u16
     requires node { 0 < node }
-    requires long { length table.now.records ≡ 128 }
     requires within { number < 128 }
     ensures pairs { D.Dictionary.pairs d.new ≡ with_pair (D.Dictionary.pairs d.old) node (parted (next_of table.now number) (prev_of table.now number) number (D.Dictionary.pairs d.old node)) }
     ensures frames { result ≡ 1 + (if parts number (D.Dictionary.pairs d.old node) then 1 else 0) }
@@ -44,7 +43,6 @@ fn part_at<D: Dictionary>(d: &mut D, table: &Table, node: u64, number: u16) -> u
 
 // Each level from the root down.
 pub fn take_away<K: Key, D: Dictionary>(d: &mut D, table: &Table, number: u16) -> u16
-    requires stands { Standing table.now }
     requires ordered { Ordered K.Key.width (rep_of table.now) (order_of table.now) }
     requires held { among number (order_of table.now) ≡ true }
     requires pairs { D.Dictionary.pairs d.old ≡ links K.Key.width (rep_of table.now) (order_of table.now) }
@@ -58,7 +56,8 @@ pub fn take_away<K: Key, D: Dictionary>(d: &mut D, table: &Table, number: u16) -
     let width = K::bit_width();
     let rep = table.rep(number);
     let mut frames: u16 = 0;
-    for level in 0..width + 1 {
+    // `set_up` walks so too: shared, the walk would take all clauses of `part_at` again, with its step as a closure.
+    for level in 0..=width {
         let node = node_at(width, rep, level);
         frames += part_at(d, table, node, number);
     }

@@ -3,10 +3,10 @@ use Rattle.trie.proofs.Sounds.{closed_sound, sound_count}
 use Rattle.trie.proofs.close_bucket.Goals as goal
 
 pub take_away-frames-requires : goal.take_away-frames-requires
-take_away-frames-requires g c = let s = c.requires.sound in record { stands = s.table; ordered = s.ordered; held = c.requires.held; pairs = s.pairs }
+take_away-frames-requires g c = let s = c.requires.sound in record { ordered = s.ordered; held = c.requires.held; pairs = s.pairs }
 
 pub close-requires : goal.close-requires
-close-requires g c = record { stands = c.requires.sound.table; held = c.requires.held; later = c.requires.later }
+close-requires g c = record { held = c.requires.held; later = c.requires.later }
 
 pub returns : goal.returns
 returns g c =

@@ -21,7 +21,6 @@ choose-requires g c =
     record {
       wide = omega arith;
       level = omega (arith, c.search-found.ensures.deepest.within, c.bit_width-width.ensures);
-      long = c.requires.sound.table.long;
       within = (numbers w (g.D.Dictionary.pairs c.args.d.now) c.args.table.now c.requires.sound (node_at w c.args.bits r.level) r.low r.high c.search-found.ensures.links).0;
     }
 

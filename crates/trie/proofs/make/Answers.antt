@@ -7,7 +7,7 @@ set_up-requires g c =
     let w = g.K.Key.width in
     let t = c.new-table.result in
     let f = c.new-table.ensures in
-    record { stands = f.stands; ordered = fresh_ordered w t f; held = rw f.order refl; pairs = fresh_pairs w t f _ c.requires.empty; room = fresh_room w t f _ c.requires.room }
+    record { ordered = fresh_ordered w t f; held = rw f.order refl; pairs = fresh_pairs w t f _ c.requires.empty; room = fresh_room w t f _ c.requires.room }
 
 pub returns : goal.returns
 returns g c =
@@ -16,7 +16,7 @@ returns g c =
     let f = c.new-table.ensures in
     let e = c.set_up.ensures in
     record {
-      sound = record { table = f.stands; ordered = fresh_ordered w t f; first = f.rep; pairs = e.pairs };
+      sound = record { ordered = fresh_ordered w t f; first = f.rep; pairs = e.pairs };
       fresh = f;
       count = omega (arith, e.count, fresh_count w t f);
       tally = omega (arith, e.tally, e.frames, fresh_cost w t f);

@@ -9,7 +9,6 @@ open-number-requires g c =
     let t = c.args.table.now in
     let s = c.requires.sound in
     record {
-      stands = s.table;
       behind = ap (λ m. among m (order_of t)) c.requires.behind ∙ holder_among g.K.Key.width (g.D.Dictionary.pairs c.args.d.now) t s c.args.rep;
       room = c.requires.few;
     }
@@ -25,7 +24,6 @@ set_up-frames-requires g c =
     let a = c.args.before in
     let r = c.args.rep in
     record {
-      stands = o.shows.stands;
       ordered = opened_ordered w f t c.requires.sound u a r n o.new o.shows c.requires.behind c.requires.above c.requires.fits;
       held = opened_stands w f t c.requires.sound u a r n o.new o.shows c.requires.behind c.requires.above c.requires.fits;
       pairs = opened_pairs w f t c.requires.sound u a r n o.new o.shows c.requires.behind c.requires.above c.requires.fits;

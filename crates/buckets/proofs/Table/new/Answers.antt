@@ -1,14 +1,14 @@
-use Rattle.std.proofs.Common.{◌≡◌, refl, subst, arith}
-use Rattle.buckets.proofs.New.{Linking, linking_start, linking_step, linking_done}
+use Rattle.std.proofs.Common.{rules, ◌≡◌, ℕ, ◌<◌, get_or, refl}
+use Rattle.buckets.specs.Rings.{no_bucket}
+use Rattle.buckets.proofs.New.{blank, new_stands, new_fresh}
 use Rattle.buckets.proofs.Table.new.Goals as goal
 
-pub loop-i-init : goal.loop-i-init
-loop-i-init c = linking_start _ refl refl refl refl refl
-
-pub loop-i-preserved : goal.loop-i-preserved
-loop-i-preserved c = linking_step c.loop-i.records c.loop-i.i _ c.loop-i.auto.i c.loop-i-test.true c.loop-i.invariant (omega arith)
+pub invariant_of-result : goal.invariant_of-result
+invariant_of-result c =
+    let each : (i : ℕ) → i < 128 → get_or c.from_fn.result i no_bucket ≡ blank i = λ i h. let made = (c.from_fn.ensures.items.at i no_bucket h).2 in search (rules, made) in
+    record { stands = new_stands c.from_fn.result c.from_fn.ensures.items.long each }
 
 pub returns : goal.returns
 returns c =
-    let e : c.loop-i.i ≡ 128 = omega (arith, c.loop-i-test.false, c.loop-i.auto.i-end (omega arith)) in
-    linking_done c.loop-i.records (subst (Linking c.loop-i.records) e c.loop-i.invariant) _ refl (omega arith) (omega arith)
+    let each : (i : ℕ) → i < 128 → get_or c.from_fn.result i no_bucket ≡ blank i = λ i h. let made = (c.from_fn.ensures.items.at i no_bucket h).2 in search (rules, made) in
+    new_fresh c.from_fn.result c.from_fn.ensures.items.long each _ refl refl

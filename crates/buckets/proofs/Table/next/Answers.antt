@@ -1,5 +1,5 @@
 use Rattle.std.proofs.Common.{arith}
-use Rattle.buckets.specs.Tables.{next_in}
+use Rattle.buckets.specs.Rings.{next_in}
 use Rattle.buckets.proofs.Table.next.Goals as goal
 
 pub returns : goal.returns

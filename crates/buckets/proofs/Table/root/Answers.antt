@@ -1,5 +1,5 @@
 use Rattle.std.proofs.Common.{arith}
-use Rattle.buckets.specs.Tables.{root_in}
+use Rattle.buckets.specs.Rings.{root_in}
 use Rattle.buckets.proofs.Table.root.Goals as goal
 
 pub returns : goal.returns

@@ -1,13 +1,16 @@
-use Rattle.std.proofs.Common.{refl, ap, arith}
-use Rattle.links.specs.Orders.{with_at}
-use Rattle.buckets.specs.Tables.{size_of, rep_in, size_in, root_in, prev_in, next_in}
-use Rattle.buckets.proofs.Fields.{with_own, written, rewritten}
+use Rattle.std.proofs.Common.{refl, arith}
+use Rattle.buckets.proofs.Fields.{sized}
 use Rattle.buckets.proofs.Lays.{kept_stands, kept_order}
 use Rattle.buckets.proofs.Table.set_size.Goals as goal
 
-pub returns : goal.returns
-unfolding rep_in size_in root_in prev_in next_in
-returns c =
+pub invariant_of-self : goal.invariant_of-self
+invariant_of-self c = let t = c.args.self.now in record { stands = kept_stands t _ (sized t.records c.args.number c.args.size (omega arith)) }
+
+pub returns-clause-reads : goal.returns-clause-reads
+returns-clause-reads c =
     let t = c.args.self.now in
-    let reads = rewritten t _ (written t _ c.args.number _ (omega arith) refl refl refl) (with_own _ _ _ refl) (ap (with_at (size_of t) c.args.number) (omega arith)) (with_own _ _ _ refl) (with_own _ _ _ refl) (with_own _ _ _ refl) in
-    record { reads = reads; stands = kept_stands t _ reads c.requires.stands; order = kept_order t _ reads c.requires.stands }
+    let s = sized t.records c.args.number c.args.size (omega arith) in
+    record { rep = s.rep; size = s.size; root = s.root; prev = s.prev; next = s.next; count = refl; free = refl; long = s.long }
+
+pub returns-clause-order : goal.returns-clause-order
+returns-clause-order c = let t = c.args.self.now in kept_order t _ (sized t.records c.args.number c.args.size (omega arith)) _ refl refl

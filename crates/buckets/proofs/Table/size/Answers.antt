@@ -1,5 +1,5 @@
 use Rattle.std.proofs.Common.{arith}
-use Rattle.buckets.specs.Tables.{size_in}
+use Rattle.buckets.specs.Rings.{size_in}
 use Rattle.buckets.proofs.Table.size.Goals as goal
 
 pub returns : goal.returns

@@ -6,7 +6,7 @@ use Rattle.forest.proofs.Plants.{grow_ready, grown}
 use Rattle.forest.proofs.grow.grow.Goals as goal
 
 pub root-root-requires : goal.root-root-requires
-root-root-requires c = record { long = c.requires.forest.table.long; within = small c.args.table.now c.requires.forest.table c.args.number c.requires.stands }
+root-root-requires c = small c.args.table.now c.args.number c.requires.stands
 
 pub insert-grown-requires : goal.insert-grown-requires
 insert-grown-requires c =
@@ -14,10 +14,10 @@ insert-grown-requires c =
     c.requires.new c.take.ensures.nodes (c.in-Some.ensures.took.1 _ c.requires.forest.shared) c.root-root.ensures
 
 pub set_root-requires : goal.set_root-requires
-set_root-requires c = record { stands = c.requires.forest.table; within = small c.args.table.now c.requires.forest.table c.args.number c.requires.stands }
+set_root-requires c = small c.args.table.now c.args.number c.requires.stands
 
 pub size-size-requires : goal.size-size-requires
-size-size-requires c = record { long = c.set_root.ensures.stands.long; within = small c.args.table.now c.requires.forest.table c.args.number c.requires.stands }
+size-size-requires c = small c.args.table.now c.args.number c.requires.stands
 
 pub overflow_add-size : goal.overflow_add-size
 overflow_add-size c =
@@ -31,14 +31,14 @@ overflow_add-size c =
     )
 
 pub set_size-requires : goal.set_size-requires
-set_size-requires c = record { stands = c.set_root.ensures.stands; within = small c.args.table.now c.requires.forest.table c.args.number c.requires.stands }
+set_size-requires c = small c.args.table.now c.args.number c.requires.stands
 
 pub returns : goal.returns
 returns c =
     let t = c.args.table.now in
     let w = size_set t c.set_root.new.self c.set_size.new.self c.args.number _
-    (root_set t t c.set_root.new.self c.args.number c.insert-grown.result.root (unwritten t c.requires.forest.table) c.set_root.ensures.stands c.set_root.ensures.order c.set_root.ensures.reads)
-    c.set_size.ensures.stands c.set_size.ensures.order c.set_size.ensures.reads in
+    (root_set t t c.set_root.new.self c.args.number c.insert-grown.result.root (unwritten t) c.set_root.ensures.order c.set_root.ensures.reads)
+    c.set_size.ensures.order c.set_size.ensures.reads in
     grown t c.args.pool.now c.take.new.self c.args.number c.in-Some.fresh c.root-root.result c.args.new c.requires.forest c.requires.stands
     c.requires.new c.take.ensures.nodes (c.in-Some.ensures.took.1 _ c.requires.forest.shared) c.root-root.ensures
     c.set_size.new.self _ _ c.insert-grown.result refl c.insert-grown.ensures w

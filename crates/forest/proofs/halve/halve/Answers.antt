@@ -6,7 +6,7 @@ use Rattle.forest.proofs.Middles.{parted, halving, halve_low, halve_high, halved
 use Rattle.forest.proofs.halve.halve.Goals as goal
 
 pub root-requires : goal.root-requires
-root-requires c = record { long = c.requires.forest.table.long; within = small c.args.table.now c.requires.forest.table c.args.number c.requires.stands }
+root-requires c = small c.args.table.now c.args.number c.requires.stands
 
 pub walk-count-requires : goal.walk-count-requires
 walk-count-requires c = record {
@@ -37,24 +37,24 @@ build-high_root-requires c =
     halve_high c.args.table.now c.args.pool.now c.args.number c.args.other _ c.split_at.result.0.now c.split_at-2.result.0.now c.requires.forest c.requires.stands h c.build-low_root.new.nodes c.build-low_root.result c.build-low_root.ensures
 
 pub set_root-requires : goal.set_root-requires
-set_root-requires c = record { stands = c.requires.forest.table; within = small c.args.table.now c.requires.forest.table c.args.number c.requires.stands }
+set_root-requires c = small c.args.table.now c.args.number c.requires.stands
 
 pub set_size-requires : goal.set_size-requires
-set_size-requires c = record { stands = c.set_root.ensures.stands; within = small c.args.table.now c.requires.forest.table c.args.number c.requires.stands }
+set_size-requires c = small c.args.table.now c.args.number c.requires.stands
 
 pub set_root-requires-2 : goal.set_root-requires-2
-set_root-requires-2 c = record { stands = c.set_size.ensures.stands; within = small c.args.table.now c.requires.forest.table c.args.other c.requires.beside }
+set_root-requires-2 c = small c.args.table.now c.args.other c.requires.beside
 
 pub set_size-requires-2 : goal.set_size-requires-2
-set_size-requires-2 c = record { stands = c.set_root-2.ensures.stands; within = small c.args.table.now c.requires.forest.table c.args.other c.requires.beside }
+set_size-requires-2 c = small c.args.table.now c.args.other c.requires.beside
 
 pub returns : goal.returns
 returns c =
     let t = c.args.table.now in
-    let w1 = root_set t t c.set_root.new.self c.args.number c.build-low_root.result (unwritten t c.requires.forest.table) c.set_root.ensures.stands c.set_root.ensures.order c.set_root.ensures.reads in
-    let w2 = size_set t c.set_root.new.self c.set_size.new.self c.args.number _ w1 c.set_size.ensures.stands c.set_size.ensures.order c.set_size.ensures.reads in
-    let w3 = root_set t c.set_size.new.self c.set_root-2.new.self c.args.other c.build-high_root.result w2 c.set_root-2.ensures.stands c.set_root-2.ensures.order c.set_root-2.ensures.reads in
-    let w4 = size_set t c.set_root-2.new.self c.set_size-2.new.self c.args.other _ w3 c.set_size-2.ensures.stands c.set_size-2.ensures.order c.set_size-2.ensures.reads in
+    let w1 = root_set t t c.set_root.new.self c.args.number c.build-low_root.result (unwritten t) c.set_root.ensures.order c.set_root.ensures.reads in
+    let w2 = size_set t c.set_root.new.self c.set_size.new.self c.args.number _ w1 c.set_size.ensures.order c.set_size.ensures.reads in
+    let w3 = root_set t c.set_size.new.self c.set_root-2.new.self c.args.other c.build-high_root.result w2 c.set_root-2.ensures.order c.set_root-2.ensures.reads in
+    let w4 = size_set t c.set_root-2.new.self c.set_size-2.new.self c.args.other _ w3 c.set_size-2.ensures.order c.set_size-2.ensures.reads in
     let w = walk_done c.args.table.now c.args.pool.now c.args.number c.root.result c.requires.forest c.requires.stands c.root.ensures c.walk-count.result _ c.walk-count.new.row refl c.walk-count.ensures.places c.walk-count.ensures.end in
     let h = parted c.args.table.now c.args.pool.now c.args.number c.walk-count.result _ c.walk-count.new.row c.requires.forest c.requires.stands w (omega arith) _ c.split_at.result.0.now c.split_at.result.1.now c.split_at-2.result.0.now (omega arith) c.split_at.ensures.front c.split_at.ensures.back c.split_at-2.ensures.front in
     halved c.args.table.now c.args.pool.now c.args.number c.args.other _ c.split_at.result.0.now c.split_at-2.result.0.now c.requires.forest c.requires.stands h c.build-low_root.new.nodes c.build-low_root.result c.build-low_root.ensures c.set_size-2.new.self _ c.build-high_root.result _ _ c.build-high_root.ensures

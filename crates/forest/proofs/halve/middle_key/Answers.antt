@@ -5,7 +5,7 @@ use Rattle.forest.proofs.Middles.{middle_inside, middle_is}
 use Rattle.forest.proofs.halve.middle_key.Goals as goal
 
 pub root-requires : goal.root-requires
-root-requires c = record { long = c.requires.forest.table.long; within = small c.args.table.now c.requires.forest.table c.args.number c.requires.stands }
+root-requires c = small c.args.table.now c.args.number c.requires.stands
 
 pub walk-count-requires : goal.walk-count-requires
 walk-count-requires c = record {

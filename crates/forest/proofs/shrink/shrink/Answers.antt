@@ -5,7 +5,7 @@ use Rattle.forest.proofs.Plants.{shrink_ready, one_more, left, give_ready, shrun
 use Rattle.forest.proofs.shrink.shrink.Goals as goal
 
 pub root-root-requires : goal.root-root-requires
-root-root-requires c = record { long = c.requires.forest.table.long; within = small c.args.table.now c.requires.forest.table c.args.number c.requires.stands }
+root-root-requires c = small c.args.table.now c.args.number c.requires.stands
 
 pub remove-shrunk-requires : goal.remove-shrunk-requires
 remove-shrunk-requires c =
@@ -20,10 +20,10 @@ give-requires c = (
 )
 
 pub set_root-requires : goal.set_root-requires
-set_root-requires c = record { stands = c.requires.forest.table; within = small c.args.table.now c.requires.forest.table c.args.number c.requires.stands }
+set_root-requires c = small c.args.table.now c.args.number c.requires.stands
 
 pub size-size-requires : goal.size-size-requires
-size-size-requires c = record { long = c.set_root.ensures.stands.long; within = small c.args.table.now c.requires.forest.table c.args.number c.requires.stands }
+size-size-requires c = small c.args.table.now c.args.number c.requires.stands
 
 pub overflow_sub-size : goal.overflow_sub-size
 overflow_sub-size c = omega (
@@ -35,14 +35,14 @@ overflow_sub-size c = omega (
 )
 
 pub set_size-requires : goal.set_size-requires
-set_size-requires c = record { stands = c.set_root.ensures.stands; within = small c.args.table.now c.requires.forest.table c.args.number c.requires.stands }
+set_size-requires c = small c.args.table.now c.args.number c.requires.stands
 
 pub returns : goal.returns
 returns c =
     let t = c.args.table.now in
     let w = size_set t c.set_root.new.self c.set_size.new.self c.args.number _
-    (root_set t t c.set_root.new.self c.args.number c.remove-shrunk.result.root (unwritten t c.requires.forest.table) c.set_root.ensures.stands c.set_root.ensures.order c.set_root.ensures.reads)
-    c.set_size.ensures.stands c.set_size.ensures.order c.set_size.ensures.reads in
+    (root_set t t c.set_root.new.self c.args.number c.remove-shrunk.result.root (unwritten t) c.set_root.ensures.order c.set_root.ensures.reads)
+    c.set_size.ensures.order c.set_size.ensures.reads in
     shrunk t c.args.pool.now c.args.number c.root-root.result c.args.key c.requires.forest c.requires.stands c.requires.held c.root-root.ensures
     c.remove-shrunk.new.nodes c.remove-shrunk.result c.remove-shrunk.ensures c.set_size.new.self _ _ c.give.ensures.nodes
     (c.give.ensures.shared _ (give_ready t c.args.pool.now c.args.number c.root-root.result c.args.key c.requires.forest c.requires.stands c.requires.held c.root-root.ensures

@@ -6,7 +6,7 @@ use Rattle.forest.proofs.Unions.{both_room, unite_ready, united}
 use Rattle.forest.proofs.unite.unite.Goals as goal
 
 pub root-requires : goal.root-requires
-root-requires c = record { long = c.requires.forest.table.long; within = small c.args.table.now c.requires.forest.table c.args.number c.requires.stands }
+root-requires c = small c.args.table.now c.args.number c.requires.stands
 
 pub walk-middle-requires : goal.walk-middle-requires
 walk-middle-requires c = record {
@@ -15,7 +15,7 @@ walk-middle-requires c = record {
 }
 
 pub root-requires-2 : goal.root-requires-2
-root-requires-2 c = record { long = c.requires.forest.table.long; within = small c.args.table.now c.requires.forest.table c.args.other c.requires.beside }
+root-requires-2 c = small c.args.table.now c.args.other c.requires.beside
 
 pub walk-count-requires : goal.walk-count-requires
 walk-count-requires c =
@@ -38,24 +38,24 @@ build-root-requires c =
     unite_ready c.args.table.now c.args.pool.now c.args.number c.args.other c.requires.forest c.requires.stands c.requires.beside c.requires.apart c.requires.rising c.walk-count.result c.walk-count.new.row c.split_at.result.0.now v c.split_at.ensures.front
 
 pub set_root-requires : goal.set_root-requires
-set_root-requires c = record { stands = c.requires.forest.table; within = small c.args.table.now c.requires.forest.table c.args.number c.requires.stands }
+set_root-requires c = small c.args.table.now c.args.number c.requires.stands
 
 pub set_size-requires : goal.set_size-requires
-set_size-requires c = record { stands = c.set_root.ensures.stands; within = small c.args.table.now c.requires.forest.table c.args.number c.requires.stands }
+set_size-requires c = small c.args.table.now c.args.number c.requires.stands
 
 pub set_root-requires-2 : goal.set_root-requires-2
-set_root-requires-2 c = record { stands = c.set_size.ensures.stands; within = small c.args.table.now c.requires.forest.table c.args.other c.requires.beside }
+set_root-requires-2 c = small c.args.table.now c.args.other c.requires.beside
 
 pub set_size-requires-2 : goal.set_size-requires-2
-set_size-requires-2 c = record { stands = c.set_root-2.ensures.stands; within = small c.args.table.now c.requires.forest.table c.args.other c.requires.beside }
+set_size-requires-2 c = small c.args.table.now c.args.other c.requires.beside
 
 pub returns : goal.returns
 returns c =
     let t = c.args.table.now in
-    let w1 = root_set t t c.set_root.new.self c.args.number c.build-root.result (unwritten t c.requires.forest.table) c.set_root.ensures.stands c.set_root.ensures.order c.set_root.ensures.reads in
-    let w2 = size_set t c.set_root.new.self c.set_size.new.self c.args.number _ w1 c.set_size.ensures.stands c.set_size.ensures.order c.set_size.ensures.reads in
-    let w3 = root_set t c.set_size.new.self c.set_root-2.new.self c.args.other 65535 w2 c.set_root-2.ensures.stands c.set_root-2.ensures.order c.set_root-2.ensures.reads in
-    let w4 = size_set t c.set_root-2.new.self c.set_size-2.new.self c.args.other _ w3 c.set_size-2.ensures.stands c.set_size-2.ensures.order c.set_size-2.ensures.reads in
+    let w1 = root_set t t c.set_root.new.self c.args.number c.build-root.result (unwritten t) c.set_root.ensures.order c.set_root.ensures.reads in
+    let w2 = size_set t c.set_root.new.self c.set_size.new.self c.args.number _ w1 c.set_size.ensures.order c.set_size.ensures.reads in
+    let w3 = root_set t c.set_size.new.self c.set_root-2.new.self c.args.other 65535 w2 c.set_root-2.ensures.order c.set_root-2.ensures.reads in
+    let w4 = size_set t c.set_root-2.new.self c.set_size-2.new.self c.args.other _ w3 c.set_size-2.ensures.order c.set_size-2.ensures.reads in
     let w = walk_done c.args.table.now c.args.pool.now c.args.number c.root.result c.requires.forest c.requires.stands c.root.ensures c.walk-middle.result _ c.walk-middle.new.row refl c.walk-middle.ensures.places c.walk-middle.ensures.end in
     let v = walk_behind c.args.table.now c.args.pool.now c.args.other c.root-2.result c.requires.forest c.requires.beside c.root-2.ensures _ c.walk-middle.new.row c.walk-count.new.row c.walk-middle.result c.walk-count.result w (both_room c.args.table.now c.args.pool.now c.args.number c.args.other c.requires.forest c.requires.stands c.requires.beside c.requires.apart c.requires.rising c.root-2.result c.walk-middle.result c.walk-middle.new.row c.root-2.ensures w) c.walk-count.ensures.places c.walk-count.ensures.end in
     united c.args.table.now c.args.pool.now c.args.number c.args.other c.requires.forest c.requires.stands c.requires.beside c.requires.apart c.requires.rising c.walk-count.result c.walk-count.new.row c.split_at.result.0.now v c.split_at.ensures.front c.set_size-2.new.self _ c.build-root.result _ _ c.build-root.ensures w4

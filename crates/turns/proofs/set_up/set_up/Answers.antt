@@ -11,7 +11,7 @@ use Rattle.buckets.proofs.Lays.{all_small, small as number_small}
 use Rattle.turns.proofs.set_up.set_up.Goals as goal
 
 pub rep-rep-requires : goal.rep-rep-requires
-rep-rep-requires g c = record { long = c.requires.stands.long; within = number_small c.args.table.now c.requires.stands c.args.number c.requires.held }
+rep-rep-requires g c = number_small c.args.table.now c.args.number c.requires.held
 
 pub loop-level-init : goal.loop-level-init
 loop-level-init g c =
@@ -43,9 +43,8 @@ join_at-frames-requires g c =
     let inv = c.loop-level.invariant in
     record {
       node = omega (arith, en, node_pos w (rep_of t i) j);
-      long = c.requires.stands.long;
-      within = number_small t c.requires.stands i c.requires.held;
-      links = joining_links w (rep_of t) (order_of t) i o c.requires.held j _ (m.pairs d) inv.0 jw n en (λ x. x < 128) (all_small t c.requires.stands);
+      within = number_small t i c.requires.held;
+      links = joining_links w (rep_of t) (order_of t) i o c.requires.held j _ (m.pairs d) inv.0 jw n en (λ x. x < 128) (all_small t);
       room = joining_room w (rep_of t) (order_of t) i o c.requires.held j _ (m.pairs d) inv.0 jw n en (m.nodes d) (m.room d) (g.met.D.Dictionary.once d) (g.met.D.Dictionary.held d) (omega (arith, inv.2, c.requires.room));
     }
 
@@ -65,23 +64,29 @@ loop-level-preserved g c =
     let said = c.join_at-frames.ensures in
     (joining_step w (rep_of t) (order_of t) i o c.requires.held j _ (m.pairs d) inv.0 jw n en _ _ said.pairs said.frames, omega (arith, said.tally, inv.1), cc)
 
-pub returns : goal.returns
-returns g c =
+pub returns-2 : goal.returns-2
+returns-2 g c =
     let w = g.K.Key.width in
     let t = c.args.table.now in
     let i = c.args.number in
-    let rep = rep_of t in
-    let order = order_of t in
+    let j = c.loop-level.level in
+    let o = c.requires.ordered in
     let m = g.D.Dictionary in
     let d = c.loop-level.d in
+    let n = c.node_at-node.result in
+    let en : n ≡ node_at w (rep_of t i) j = cc in
+    let jw : j ≤ w = omega (arith, c.loop-level-test.true, c.bit_width-width.ensures) in
     let inv = c.loop-level.invariant in
-    let e : c.loop-level.level ≡ w + 1 = omega (arith, c.loop-level-test.false, c.loop-level.auto.level-end, c.bit_width-width.ensures) in
-    let done = turned_end w (rep i) (map rep order) (links w rep order) (links w rep (without i order)) _ _ _ inv.0 e (off w rep order i c.requires.ordered c.requires.held) in
+    let said = c.join_at-frames.ensures in
+    let last = c.join_at-frames.new.d in
+    let turned = joining_step w (rep_of t) (order_of t) i o c.requires.held j _ (m.pairs d) inv.0 jw n en _ _ said.pairs said.frames in
+    let e : j + 1 ≡ w + 1 = omega (arith, c.loop-level-test.true, c.bit_width-width.ensures) in
+    let done = turned_end w (rep_of t i) (map (rep_of t) (order_of t)) (links w (rep_of t) (order_of t)) (links w (rep_of t) (without i (order_of t))) _ _ _ turned e (off w (rep_of t) (order_of t) i c.requires.ordered c.requires.held) in
     record {
       pairs = done.0;
-      count = held_count w rep order c.requires.ordered (m.nodes d) (m.pairs d) (g.met.D.Dictionary.once d) (g.met.D.Dictionary.held d) done.0;
+      count = held_count w (rep_of t) (order_of t) c.requires.ordered (m.nodes last) (m.pairs last) (g.met.D.Dictionary.once last) (g.met.D.Dictionary.held last) done.0;
       frames = done.1;
       few = done.2;
-      tally = inv.1;
-      room = inv.2;
+      tally = omega (arith, said.tally, inv.1);
+      room = cc;
     }

@@ -36,7 +36,7 @@ pub size-requires : goal.size-requires
 size-requires g c =
     let re = c.grow.ensures in
     let n = c.args.number in
-    record { long = re.forest.table.long; within = small c.grow.new.table re.forest.table n (subst (λ o. among n o ≡ true) (sym re.kept.order) c.requires.held) }
+    small c.grow.new.table n (subst (λ o. among n o ≡ true) (sym re.kept.order) c.requires.held)
 
 pub split-frames-requires : goal.split-frames-requires
 split-frames-requires g c =
@@ -59,7 +59,7 @@ split-frames-requires g c =
     let more : 5 * half w < size (here (place e.key (row_of i.table i.pool)) (with_entry e (row_of i.table i.pool))) = omega (arith, long, here_size, c.half_width.ensures.value, c.if-size-half_width.false) in
     let one = one_more w f room tally i big c.requires.whole e c.requires.fits new c.requires.free u q re more in
     record {
-      trie = trie_kept w f i.table u c.requires.whole.trie re.forest.table re.kept.order re.kept.rep;
+      trie = trie_kept w f i.table u c.requires.whole.trie re.kept.order re.kept.rep;
       forest = re.forest;
       spread = subst (Spread (2 ^ w)) (sym row) (entered_spread w f room tally i big c.requires.whole e c.requires.fits new c.requires.free);
       stands = subst (λ o. among c.args.number o ≡ true) (sym re.kept.order) c.requires.held;
@@ -92,7 +92,7 @@ returns-then-size-half_width g c =
     let is = stays_as w f room tally i big c.requires.whole e c.requires.fits new c.requires.free le in
     let low = g.met.D.Dictionary.counts d in
     record {
-      trie = trie_kept w f i.table u c.requires.whole.trie re.forest.table re.kept.order re.kept.rep;
+      trie = trie_kept w f i.table u c.requires.whole.trie re.kept.order re.kept.rep;
       forest = re.forest;
       entered = record { row = row ∙ ap (λ (ch : Change). ch.after) (sym is); frames = ap (λ (ch : Change). ch.frames) (sym is); rebuilding = ap (λ (ch : Change). ch.rebuilding) (sym is) };
       few = omega arith;

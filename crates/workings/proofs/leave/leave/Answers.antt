@@ -13,10 +13,7 @@ pub overflow_sub-inside : goal.overflow_sub-inside
 overflow_sub-inside g c = some_counted _ _ _ _ c.args.inside.now g.met.K.Key.wide.0 c.requires.whole c.args.key c.requires.fits c.args.number c.requires.place c.requires.some
 
 pub size-requires : goal.size-requires
-size-requires g c = record {
-  long = c.shrink.ensures.forest.table.long;
-  within = small c.args.inside.now.table c.requires.whole.forest.table c.args.number c.requires.held;
-}
+size-requires g c = small c.args.inside.now.table c.args.number c.requires.held
 
 pub returns-then-size-half_width : goal.returns-then-size-half_width
 returns-then-size-half_width g c =
@@ -34,7 +31,7 @@ returns-then-size-half_width g c =
     ] in
     let counted = some_counted w f (g.D.Dictionary.room d) (g.D.Dictionary.frames d) i big c.requires.whole c.args.key c.requires.fits n c.requires.place c.requires.some in
     record {
-      trie = trie_kept w f i.table u c.requires.whole.trie re.forest.table re.kept.order re.kept.rep;
+      trie = trie_kept w f i.table u c.requires.whole.trie re.kept.order re.kept.rep;
       forest = re.forest;
       left = left_still w f (g.D.Dictionary.room d) (g.D.Dictionary.frames d) i big c.requires.whole c.args.key c.requires.fits n c.requires.place c.requires.some u c.shrink.new.pool re way;
       tally = omega (arith, g.met.D.Dictionary.counts d);
@@ -43,10 +40,7 @@ returns-then-size-half_width g c =
     }
 
 pub prev-left-requires : goal.prev-left-requires
-prev-left-requires g c = record {
-  long = c.shrink.ensures.forest.table.long;
-  within = small c.args.inside.now.table c.requires.whole.forest.table c.args.number c.requires.held;
-}
+prev-left-requires g c = small c.args.inside.now.table c.args.number c.requires.held
 
 pub mend-requires : goal.mend-requires
 mend-requires g c =
@@ -63,15 +57,15 @@ mend-requires g c =
     let r = in_row w f room tally i big c.requires.whole c.args.key c.requires.fits n c.requires.place c.requires.some in
     let is = re.kept.order ∙ r.is in
     let x : Partner (order_of u) r.pre c.if-number-eq0.left = elim c.if-number-eq0.branch [
-      | then-number-eq0 v ↦ subst (Partner (order_of u) r.pre) (sym v.left-is) (partner_first u re.forest.table r.pre n r.post is v.if-number-eq0.true (omega (arith, c.if-count-lt2.false, c.count.ensures)))
-      | else-number-eq0 v ↦ subst (Partner (order_of u) r.pre) (sym (v.left-is ∙ v.prev-left.ensures)) (partner_before u re.forest.table r.pre n r.post is (omega (arith, v.if-number-eq0.false)))
+      | then-number-eq0 v ↦ subst (Partner (order_of u) r.pre) (sym v.left-is) (partner_first u r.pre n r.post is v.if-number-eq0.true (omega (arith, c.if-count-lt2.false, c.count.ensures)))
+      | else-number-eq0 v ↦ subst (Partner (order_of u) r.pre) (sym (v.left-is ∙ v.prev-left.ensures)) (partner_before u r.pre n r.post is (omega (arith, v.if-number-eq0.false)))
     ] in
     record {
-      trie = trie_kept w f i.table u c.requires.whole.trie re.forest.table re.kept.order re.kept.rep;
+      trie = trie_kept w f i.table u c.requires.whole.trie re.kept.order re.kept.rep;
       forest = re.forest;
       spread = subst (Spread (2 ^ w)) (sym (row_left w f room tally i big c.requires.whole c.args.key c.requires.fits n c.requires.place c.requires.some u q re)) (left_spread w f room tally i big c.requires.whole c.args.key c.requires.fits n c.requires.place c.requires.some);
       stands = partner_stands (order_of u) r.pre c.if-number-eq0.left x;
-      behind = partner_next u re.forest.table r.pre c.if-number-eq0.left x;
+      behind = partner_next u r.pre c.if-number-eq0.left x;
       room = subst (λ o. (w + 1) * length o ≤ room) (sym re.kept.order) (left_room w f room tally i big c.requires.whole c.args.key c.requires.fits n c.requires.place c.requires.some);
     }
 
@@ -91,8 +85,8 @@ returns g c =
     let is = re.kept.order ∙ r.is in
     let long : 2 ≤ length (order_of u) = omega (arith, c.if-count-lt2.false, c.count.ensures) in
     let x : Partner (order_of u) r.pre c.if-number-eq0.left = elim c.if-number-eq0.branch [
-      | then-number-eq0 v ↦ subst (Partner (order_of u) r.pre) (sym v.left-is) (partner_first u re.forest.table r.pre n r.post is v.if-number-eq0.true long)
-      | else-number-eq0 v ↦ subst (Partner (order_of u) r.pre) (sym (v.left-is ∙ v.prev-left.ensures)) (partner_before u re.forest.table r.pre n r.post is (omega (arith, v.if-number-eq0.false)))
+      | then-number-eq0 v ↦ subst (Partner (order_of u) r.pre) (sym v.left-is) (partner_first u r.pre n r.post is v.if-number-eq0.true long)
+      | else-number-eq0 v ↦ subst (Partner (order_of u) r.pre) (sym (v.left-is ∙ v.prev-left.ensures)) (partner_before u r.pre n r.post is (omega (arith, v.if-number-eq0.false)))
     ] in
     let few : size_of u n < half w = omega (arith, c.if-size-half_width.false, c.size.ensures, c.half_width.ensures.value) in
     let counted = some_counted w f room tally i big c.requires.whole c.args.key c.requires.fits n c.requires.place c.requires.some in

@@ -12,13 +12,13 @@ use Rattle.inside.proofs.Leave.{few_orders, size_left, size_right, row_long, joi
 use Rattle.workings.proofs.leave.mend.Goals as goal
 
 pub next-other-requires : goal.next-other-requires
-next-other-requires g c = record { long = c.requires.forest.table.long; within = small c.args.inside.now.table c.requires.forest.table c.args.left c.requires.stands }
+next-other-requires g c = small c.args.inside.now.table c.args.left c.requires.stands
 
 pub size-requires : goal.size-requires
-size-requires g c = record { long = c.requires.forest.table.long; within = small c.args.inside.now.table c.requires.forest.table c.args.left c.requires.stands }
+size-requires g c = small c.args.inside.now.table c.args.left c.requires.stands
 
 pub size-requires-2 : goal.size-requires-2
-size-requires-2 g c = record { long = c.requires.forest.table.long; within = omega (arith, c.next-other.ensures, next_small c.args.inside.now.table c.requires.forest.table c.args.left c.requires.stands) }
+size-requires-2 g c = omega (arith, c.next-other.ensures, next_small c.args.inside.now.table c.args.left c.requires.stands)
 
 pub returns-then-both-most : goal.returns-then-both-most
 returns-then-both-most g c =
@@ -31,7 +31,7 @@ returns-then-both-most g c =
       trie = me.trie;
       forest = me.forest;
       mended = λ pre other post is.
-          let same : c.next-other.result ≡ other = c.next-other.ensures ∙ (neighbours t c.requires.forest.table pre n (other ∷ post) is).1 in
+          let same : c.next-other.result ≡ other = c.next-other.ensures ∙ (neighbours t pre n (other ∷ post) is).1 in
           let sum : size (here (length pre) (row_of t p)) + size (here (length pre + 1) (row_of t p)) ≤ 4 * half w =
           omega (arith, size_left t p c.requires.forest n other pre post is, size_right t p c.requires.forest n other pre post is, c.size.ensures, c.size-2.ensures ∙ ap (size_of t) same, c.if-both-most.true, c.half_width-most.ensures.value) in
           let m = me.merged pre other post is in
@@ -50,7 +50,7 @@ split-more-requires g c =
     let n = c.args.left in
     let w = g.K.Key.width in
     let me = c.merge-frames.ensures in
-    let x = pair t c.requires.forest.table n c.requires.stands c.requires.behind in
+    let x = pair t n c.requires.stands c.requires.behind in
     let o = next_of t n in
     let m = me.merged x.pre o x.post x.is in
     let l = length x.pre in
@@ -66,7 +66,7 @@ split-more-requires g c =
       spread = subst (Spread (2 ^ w)) (sym m.1) (joined_spread w (2 ^ w) l s long c.requires.spread);
       stands = subst (λ r. among n r ≡ true) (sym m.0) (among_right n x.pre (n ∷ x.post) (among_first n x.post));
       two = omega (arith, sum, size_left t p c.requires.forest n o x.pre x.post x.is, size_right t p c.requires.forest n o x.pre x.post x.is, c.size.ensures, c.size-2.ensures ∙ ap (size_of t) c.next-other.ensures, c.if-both-most.false, c.half_width-most.ensures.bounds);
-      few = omega (arith, after, few_orders t c.requires.forest.table);
+      few = omega (arith, after, few_orders t);
       room = subst (λ r. (w + 1) * r ≤ g.D.Dictionary.room c.merge-frames.new.d) (sym after) (subst (λ r. (w + 1) * length (order_of t) ≤ r) (sym me.room) c.requires.room);
     }
 
@@ -82,7 +82,7 @@ returns g c =
       trie = sp.trie;
       forest = sp.forest;
       mended = λ pre other post is.
-          let same : c.next-other.result ≡ other = c.next-other.ensures ∙ (neighbours t c.requires.forest.table pre n (other ∷ post) is).1 in
+          let same : c.next-other.result ≡ other = c.next-other.ensures ∙ (neighbours t pre n (other ∷ post) is).1 in
           let sum : 4 * half w < size (here (length pre) (row_of t p)) + size (here (length pre + 1) (row_of t p)) =
           omega (arith, size_left t p c.requires.forest n other pre post is, size_right t p c.requires.forest n other pre post is, c.size.ensures, c.size-2.ensures ∙ ap (size_of t) same, c.if-both-most.false, c.half_width-most.ensures.value) in
           let m = me.merged pre other post is in

@@ -6,7 +6,7 @@ use Rattle.workings.proofs.near.last_from.Goals as goal
 pub root-root-requires : goal.root-root-requires
 root-root-requires c =
     let t = c.args.inside.now.table in
-    record { long = c.requires.forest.table.long; within = small t c.requires.forest.table c.args.number c.requires.held }
+    small t c.args.number c.requires.held
 
 pub last-here-requires : goal.last-here-requires
 last-here-requires c =
@@ -24,13 +24,13 @@ returns-then-is_some c pre post is =
 pub prev-before-requires : goal.prev-before-requires
 prev-before-requires c =
     let t = c.args.inside.now.table in
-    record { long = c.requires.forest.table.long; within = small t c.requires.forest.table c.args.number c.requires.held }
+    small t c.args.number c.requires.held
 
 pub root-other-requires : goal.root-other-requires
 root-other-requires c =
     let t = c.args.inside.now.table in
     let h : 0 < c.args.number = omega (arith, c.if-number-eq0.false) in
-    record { long = c.requires.forest.table.long; within = omega (arith, c.prev-before.ensures, prev_small t c.requires.forest.table c.args.number h c.requires.held) }
+    omega (arith, c.prev-before.ensures, prev_small t c.args.number h c.requires.held)
 
 pub last_entry-there-requires : goal.last_entry-there-requires
 last_entry-there-requires c =

@@ -6,7 +6,7 @@ use Rattle.workings.proofs.near.next_from.Goals as goal
 pub root-root-requires : goal.root-root-requires
 root-root-requires c =
     let t = c.args.inside.now.table in
-    record { long = c.requires.forest.table.long; within = small t c.requires.forest.table c.args.number c.requires.held }
+    small t c.args.number c.requires.held
 
 pub next-here-requires : goal.next-here-requires
 next-here-requires c =
@@ -16,7 +16,7 @@ next-here-requires c =
 pub next-behind-requires : goal.next-behind-requires
 next-behind-requires c =
     let t = c.args.inside.now.table in
-    record { long = c.requires.forest.table.long; within = small t c.requires.forest.table c.args.number c.requires.held }
+    small t c.args.number c.requires.held
 
 pub returns-then-is_some : goal.returns-then-is_some
 returns-then-is_some c pre post is =
@@ -29,7 +29,7 @@ returns-then-is_some c pre post is =
 pub root-other-requires : goal.root-other-requires
 root-other-requires c =
     let t = c.args.inside.now.table in
-    record { long = c.requires.forest.table.long; within = omega (arith, c.next-behind.ensures, next_small t c.requires.forest.table c.args.number c.requires.held) }
+    omega (arith, c.next-behind.ensures, next_small t c.args.number c.requires.held)
 
 pub first_entry-there-requires : goal.first_entry-there-requires
 first_entry-there-requires c =

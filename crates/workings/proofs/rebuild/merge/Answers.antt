@@ -22,7 +22,7 @@ second_in : (n m : ℕ) (pre post : List ℕ) → among m (pre ++ n ∷ m ∷ po
 second_in n m pre post = among_right m pre (n ∷ m ∷ post) (among_right m (n ∷ []) (m ∷ post) (among_first m post))
 
 pub next-other-requires : goal.next-other-requires
-next-other-requires g c = record { long = c.requires.forest.table.long; within = small c.args.inside.now.table c.requires.forest.table c.args.number c.requires.stands }
+next-other-requires g c = small c.args.inside.now.table c.args.number c.requires.stands
 
 pub unite-requires : goal.unite-requires
 unite-requires g c =
@@ -30,7 +30,7 @@ unite-requires g c =
     let p = c.args.inside.now.pool in
     let n = c.args.number in
     let w = g.K.Key.width in
-    let x = subst (Pair (order_of t) n) (sym c.next-other.ensures) (pair t c.requires.forest.table n c.requires.stands c.requires.behind) in
+    let x = subst (Pair (order_of t) n) (sym c.next-other.ensures) (pair t n c.requires.stands c.requires.behind) in
     let m = c.next-other.result in
     record {
       forest = c.requires.forest;
@@ -45,11 +45,11 @@ close_bucket-requires g c =
     let t = c.args.inside.now.table in
     let u = c.unite.new.table in
     let n = c.args.number in
-    let x = subst (Pair (order_of t) n) (sym c.next-other.ensures) (pair t c.requires.forest.table n c.requires.stands c.requires.behind) in
+    let x = subst (Pair (order_of t) n) (sym c.next-other.ensures) (pair t n c.requires.stands c.requires.behind) in
     let m = c.next-other.result in
     let un = c.unite.ensures in
     record {
-      sound = trie_kept g.K.Key.width (g.D.Dictionary.pairs c.args.d.now) t u c.requires.trie un.forest.table un.kept.order un.kept.rep;
+      sound = trie_kept g.K.Key.width (g.D.Dictionary.pairs c.args.d.now) t u c.requires.trie un.kept.order un.kept.rep;
       held = subst (λ o. among m o ≡ true) (sym (un.kept.order ∙ x.is)) (second_in n m x.pre x.post);
       later = elim (cases_eq m 0) [ inl e ↦ absurd (c.requires.behind (sym c.next-other.ensures ∙ e)) | inr e ↦ omega (arith, e) ];
     }
@@ -66,13 +66,13 @@ returns g c =
     let w = g.K.Key.width in
     let un = c.unite.ensures in
     let sh = c.close_bucket.ensures.shows in
-    let x = subst (Pair (order_of t) n) (sym c.next-other.ensures) (pair t c.requires.forest.table n c.requires.stands c.requires.behind) in
+    let x = subst (Pair (order_of t) n) (sym c.next-other.ensures) (pair t n c.requires.stands c.requires.behind) in
     let rises = c.requires.trie.ordered.rises in
     record {
       trie = c.close_bucket.ensures.sound;
       forest = forest_v t u v p q n m x.pre x.post x.is rises un sh;
       merged = λ pre other post is.
-          let same : m ≡ other = c.next-other.ensures ∙ (neighbours t c.requires.forest.table pre n (other ∷ post) is).1 in
+          let same : m ≡ other = c.next-other.ensures ∙ (neighbours t pre n (other ∷ post) is).1 in
           let is_m = is ∙ ap (λ y. pre ++ n ∷ y ∷ post) (sym same) in (
             order_v t u v p q n m pre post is_m rises un sh,
             row_merged t u v p q n m pre post is_m rises un sh w,

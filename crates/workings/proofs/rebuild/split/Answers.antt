@@ -66,7 +66,7 @@ returns g c =
     let key = c.middle_key-rep.ensures in
     let sh = subst (λ r. Shows u (put_after n m (order_of t)) (with_at (rep_of t) m r) (with_at (size_of t) m 0) (with_at (root_of t) m no_tree)) key c.open_bucket-opened.ensures.shows in
     record {
-      trie = trie_kept w (g.D.Dictionary.pairs c.open_bucket-opened.new.d) u v c.open_bucket-opened.ensures.sound ha.forest.table ha.kept.order ha.kept.rep;
+      trie = trie_kept w (g.D.Dictionary.pairs c.open_bucket-opened.new.d) u v c.open_bucket-opened.ensures.sound ha.kept.order ha.kept.rep;
       forest = ha.forest;
       split = λ pre post is.
           let rises = subst (Rising (rep_of t)) is c.requires.trie.ordered.rises in

@@ -12,7 +12,7 @@ loop-init c =
 pub root-root-requires : goal.root-root-requires
 root-root-requires c =
     let t = c.args.inside.now.table in
-    record { long = c.requires.forest.table.long; within = small t c.requires.forest.table c.loop.at c.loop.invariant.walk.held }
+    small t c.loop.at c.loop.invariant.walk.held
 
 pub count-sum-requires : goal.count-sum-requires
 count-sum-requires c =
@@ -28,7 +28,7 @@ overflow_add-sum c =
 pub next-at-requires : goal.next-at-requires
 next-at-requires c =
     let t = c.args.inside.now.table in
-    record { long = c.requires.forest.table.long; within = small t c.requires.forest.table c.loop.at c.loop.invariant.walk.held }
+    small t c.loop.at c.loop.invariant.walk.held
 
 pub returns-then-at-eq0 : goal.returns-then-at-eq0
 returns-then-at-eq0 c =

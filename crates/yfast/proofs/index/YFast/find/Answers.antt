@@ -43,10 +43,7 @@ returns-in-Err g c =
 
 pub root-root-requires : goal.root-root-requires
 root-root-requires g c =
-    let i = c.args.self.now.inside in
-    let k = c.args.key in
-    let o = open_whole _ _ _ _ i k k c.args.self.now.sound c.in_default.ensures in
-    record { long = o.1.forest.table.long; within = small i.table o.1.forest.table c.locate-at.result.number c.locate-at.ensures.held }
+    small c.args.self.now.inside.table c.locate-at.result.number c.locate-at.ensures.held
 
 pub find-found-requires : goal.find-found-requires
 find-found-requires g c =
