@@ -1,6 +1,7 @@
 -- What a look down a tree answers, from the answer below the root.
 --
---   saw_none, saw_step  at the end of a path; one place higher
+--   saw_here, saw_more, saw_or  at the key's own place; one place higher; there, if none was found behind
+--   saw_few             its visits are few
 --   foremost-…, hindmost-…  what an answer tells of the list
 --   front_or, back_or   the first and the last entry of joined lists
 --   at-…, from-…, upto-…  the filters at a key, below the root's key, at it, above it
@@ -26,17 +27,19 @@ use Rattle.trees.specs.Heights.{highest}
 use Rattle.trees.proofs.Counts.{times_append}
 use Rattle.trees.proofs.Heights.{highest_tree}
 use Rattle.trees.proofs.Paths.{seen_here, seen_left, seen_right, seen_low}
-use Rattle.trees.proofs.Pools.{Opened, size}
+use Rattle.trees.proofs.Pools.{Opened, low, size}
 
-pub saw_none : (e : Option Entry) (n : ℕ) (t : Tree) → None ≡ e → 0 ≡ n → Saw (record { entry = None; visits = 0 }) e n t
-saw_none e n t is zero_is = record { entry = is; visits = zero_is; few = omega arith }
+pub saw_here : {y : Found} {x : Entry} {e : Option Entry} {n : ℕ} {t : Tree} → y ≡ record { entry = Some x; visits = 1 } → e ≡ Some x → n ≡ 1 → 1 ≤ tall t → Saw y e n t
+saw_here made is one_is pos = rw made (record { entry = sym is; visits = sym one_is; few = pos })
 
-pub saw_here : (x : Entry) (e : Option Entry) (n : ℕ) (t : Tree) → Some x ≡ e → n ≡ 1 → 1 ≤ tall t → Saw (record { entry = Some x; visits = 1 }) e n t
-saw_here x e n t is one_is pos = record { entry = is; visits = sym one_is; few = pos }
+pub saw_more : {y r : Found} {e e' : Option Entry} {n n' : ℕ} {t t' : Tree} → y ≡ record { entry = r.entry; visits = r.visits + 1 } → Saw r e n t → e' ≡ e → n' ≡ n + 1 → 1 + tall t ≤ tall t' → Saw y e' n' t'
+saw_more made s is more up = rw made (record { entry = s.entry ∙ sym is; visits = omega (arith, s.visits); few = omega (arith, s.few) })
 
-pub saw_step : (r : Found) (x e e' : Option Entry) (n n' : ℕ) (t t' : Tree) → Saw r e n t → x ≡ e' → n' ≡ n + 1 → 1 + tall t ≤ tall t'
-    → Saw (record { entry = x; visits = r.visits + 1 }) e' n' t'
-saw_step r x e e' n n' t t' s is more up = record { entry = is; visits = omega (arith, s.visits); few = omega (arith, s.few) }
+pub saw_or : {y r : Found} (x : Entry) {e e' : Option Entry} {n n' : ℕ} {t t' : Tree} → y ≡ record { entry = option_or r.entry (Some x); visits = r.visits + 1 } → Saw r e n t → e' ≡ option_or e (Some x) → n' ≡ n + 1 → 1 + tall t ≤ tall t' → Saw y e' n' t'
+saw_or x made s is more up = rw made (record { entry = ap (λ z. option_or z (Some x)) s.entry ∙ sym is; visits = omega (arith, s.visits); few = omega (arith, s.few) })
+
+pub saw_few : {ns : List Node} {root : ℕ} {r : Found} {e : Option Entry} {n : ℕ} → Standing ns root → Saw r e n (tree_at ns root) → r.visits < 512
+saw_few s r = omega (arith, low _ _ _ s, r.few)
 
 -- what an answer tells of the list
 pub foremost_some : (xs : List Entry) (e : Entry) → foremost xs ≡ Some e → (filled xs ≡ true) × (first xs ≡ e)

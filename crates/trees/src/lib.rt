@@ -15,7 +15,8 @@ mod table;
 mod tally;
 mod walks;
 
-ghost use Rattle.std.specs.Prelude.{◌≡◌};
+ghost use Rattle.std.specs.Prelude.{◌≡◌, ◌+◌, ◌<◌};
+ghost use Rattle.std.specs.Option.{option_or};
 ghost use Rattle.trees.specs.Pools.{entry_in};
 
 pub use above::next;
@@ -31,7 +32,7 @@ pub use walks::walk;
 // No tree.
 pub const NONE: u16 = 0xFFFF;
 
-#[derive(Clone, Copy)]
+#[derive(Clone, Copy, Debug, Eq, PartialEq)]
 pub struct Node {
     pub key: u64,
     pub note: u64,
@@ -49,13 +50,47 @@ impl Node {
             note: self.note,
         }
     }
+
+    // The look ends here.
+    pub(crate) fn found(&self) -> Found
+        ensures { result ≡ record { entry = Some (entry_in self.now); visits = 1 } }
+    {
+        Found {
+            entry: Some(self.entry()),
+            visits: 1,
+        }
+    }
 }
 
 // What a look for an entry gives: the entry, if there is one, and how many entries stand on the way.
-#[derive(Clone, Copy)]
+#[derive(Clone, Copy, Debug, Default, Eq, PartialEq)]
 pub struct Found {
     pub entry: Option<Entry>,
     pub visits: u16,
+}
+
+impl Found {
+    // One entry more on the way.
+    pub(crate) fn one_more(self) -> Found
+        requires { self.visits < 512 }
+        ensures { result ≡ record { entry = self.entry; visits = self.visits + 1 } }
+    {
+        Found {
+            visits: self.visits + 1,
+            ..self
+        }
+    }
+
+    // One entry more on the way, which is the answer where none was found behind it.
+    pub(crate) fn or_here(self, here: &Node) -> Found
+        requires { self.visits < 512 }
+        ensures { result ≡ record { entry = option_or self.entry (Some (entry_in here.now)); visits = self.visits + 1 } }
+    {
+        Found {
+            entry: self.entry.or(Some(here.entry())),
+            ..self.one_more()
+        }
+    }
 }
 
 #[cfg(test)]
