@@ -3,7 +3,9 @@
 // All nodes lie in one pool. A tree is the index of its root, NONE for no tree, and a node names its
 // children by their indices. At each place the heights of the two subtrees differ by at most 1, a node
 // stores the height of its subtree, keys rise from left to right, and no index stands twice.
-// Every call here walks down recursively, and the stored height falls with each step.
+// Every call here walks down recursively, and the stored height falls with each step. The nodes and the
+// root stay two arguments: in one struct, it would have to be made anew at each step and by each caller,
+// who holds one pool and a root for each bucket.
 #![tactic(auto)]
 
 mod above;
@@ -29,7 +31,8 @@ pub use table::{FEWEST, fewest_at, tallest};
 pub use tally::count;
 pub use walks::walk;
 
-// No tree.
+// No tree. As Option<u16> each index would take 4 bytes in place of 2, so a node 32 in place of 24, and the
+// fixed pool of 512 nodes 16384 in place of 12288.
 pub const NONE: u16 = 0xFFFF;
 
 #[derive(Clone, Copy, Debug, Eq, PartialEq)]

@@ -4,9 +4,6 @@ use Rattle.trees.proofs.Pools.{opened, falls_left, falls_right, low}
 use Rattle.avl.proofs.Removals.{held_root, held_left, held_right, left_loose, left_near, cut_left_rising, cut_left, cut_right_loose, cut_right_near, cut_right, cut_here}
 use Rattle.avl.proofs.cut.+remove.Goals as goal
 
-pub slice_copy_out-here : goal.slice_copy_out-here
-slice_copy_out-here t c = (opened c.args.nodes.now c.args.root c.requires.stands (held_root c.args.nodes.now c.args.root c.args.key c.requires)).inside
-
 pub remove-left-requires : goal.remove-left-requires
 remove-left-requires t c =
     let o = opened c.args.nodes.now c.args.root c.requires.stands (held_root c.args.nodes.now c.args.root c.args.key c.requires) in
@@ -58,9 +55,6 @@ pub returns-in-Greater : goal.returns-in-Greater
 returns-in-Greater t c =
     let o = opened c.args.nodes.now c.args.root c.requires.stands (held_root c.args.nodes.now c.args.root c.args.key c.requires) in
     cut_right c.args.nodes.now c.args.root c.requires.stands o c.args.key (ranked _ _ _ c.in-Greater.ensures) c.remove-right.new.nodes c.remove-right.result c.remove-right.ensures _ _ c.level-top-in-Greater.ensures
-
-pub drop_root-top-requires : goal.drop_root-top-requires
-drop_root-top-requires t c = record { tree = c.requires.stands; some = held_root c.args.nodes.now c.args.root c.args.key c.requires }
 
 pub returns-in-Equal : goal.returns-in-Equal
 returns-in-Equal t c =
