@@ -5,8 +5,11 @@
 ghost use Rattle.std.specs.Prelude.{◌≡◌};
 ghost use Rattle.dictionary.specs.Pairs.{raised};
 
+pub mod layout;
+pub mod module;
+
 // A node with its two links. Node 0 marks an empty slot.
-#[derive(Clone, Copy)]
+#[derive(Clone, Copy, Debug, PartialEq, Eq)]
 pub struct Slot {
     pub node: u64,
     pub low: u16,
