@@ -56,25 +56,29 @@ mod tests {
         table
     }
 
+    fn node_at(table: &RobinHood, at: usize) -> Option<u64> {
+        table.slots().get(at).map(|slot| slot.node)
+    }
+
     #[test]
     fn a_put_walks_round_the_end(rt: HostRuntime) {
         let table = crowded();
-        assert!(rt; table.layout().slots[1022].node == 377);
-        assert!(rt; table.layout().slots[1023].node == 1364);
-        assert!(rt; table.layout().slots[0].node == 1974);
-        assert!(rt; table.layout().slots[1].node == 2584);
-        assert!(rt; table.layout().slots[2].node == 987);
-        assert!(rt; table.layout().slots[3].node == 610);
+        assert_eq!(rt; node_at(&table, 1022), Some(377));
+        assert_eq!(rt; node_at(&table, 1023), Some(1364));
+        assert_eq!(rt; node_at(&table, 0), Some(1974));
+        assert_eq!(rt; node_at(&table, 1), Some(2584));
+        assert_eq!(rt; node_at(&table, 2), Some(987));
+        assert_eq!(rt; node_at(&table, 3), Some(610));
     }
 
     #[test]
     fn a_drop_moves_the_followers_back(rt: HostRuntime) {
         let mut table = crowded();
         assert!(rt; table.drop_pair(377));
-        assert!(rt; table.layout().slots[1022].node == 1364);
-        assert!(rt; table.layout().slots[1023].node == 1974);
-        assert!(rt; table.layout().slots[2].node == 610);
-        assert!(rt; table.layout().slots[3].node == 0);
+        assert_eq!(rt; node_at(&table, 1022), Some(1364));
+        assert_eq!(rt; node_at(&table, 1023), Some(1974));
+        assert_eq!(rt; node_at(&table, 2), Some(610));
+        assert_eq!(rt; node_at(&table, 3), Some(0));
         assert_eq!(rt; table.get(610), Some((7, 8)));
         assert_eq!(rt; table.pairs_held(), 5);
     }

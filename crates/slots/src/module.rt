@@ -21,10 +21,10 @@ pub struct Module<L: Layout> {
 }
 
 impl<L: Layout> Module<L> {
-    pub fn layout(&self) -> &L
-        ensures { result.now ≡ self.now.layout }
+    pub fn slots(&self) -> &[Slot]
+        ensures { result.now ≡ L.rows self.now.layout }
     {
-        &self.layout
+        self.layout.slots()
     }
 
     // The slot that holds `node`, if one does. Node 0 has none.
@@ -77,7 +77,7 @@ impl<L: Layout> Dictionary for Module<L> {
     fn get(&mut self, node: u64) -> Option<(u16, u16)> {
         raise(&mut self.tally);
         let at = self.seat(node)?;
-        let slot = self.layout.slots()[at];
+        let slot = self.slots()[at];
         Some((slot.low, slot.high))
     }
 

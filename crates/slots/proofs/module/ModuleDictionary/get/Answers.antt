@@ -1,5 +1,4 @@
-use Rattle.std.proofs.Common.{rules, sym, ap, ◌∙◌, arith}
-use Rattle.slots.specs.Slots.{links_of}
+use Rattle.std.proofs.Common.{rules, sym}
 use Rattle.slots.proofs.Rows.{pairs_found, pairs_none}
 use Rattle.slots.proofs.module.ModuleDictionary.get.Goals as goal
 
