@@ -42,16 +42,6 @@ module _ (xs : List Slot) (n : ℕ) (packed : Packed xs n) where
   pub packed_below : (p : ℕ) (c : Slot) → p < length xs → p < 1024 → Packed (set xs p c) n
   packed_below p c within low = packed_like xs (set xs p c) n (λ k. node_other xs p c within (1024 + k) (omega arith)) packed
 
-  -- a node gets new links
-  pub packed_renew : (p : ℕ) (c : Slot) → p < length xs → node_at xs p ≡ c.node → Packed (set xs p c) n
-  packed_renew p c within same =
-      packed_like xs (set xs p c) n
-      (λ k. ⊎_elim
-      (λ (a : 1024 + k ≡ p). ap (node_at (set xs p c)) a ∙ node_same xs p c within ∙ sym same ∙ sym (ap (node_at xs) a))
-      (λ (na : 1024 + k ≡ p → ⊥). node_other xs p c within (1024 + k) na)
-      (cases_eq (1024 + k) p))
-      packed
-
   -- a pair spills to the first free slot
   pub packed_spill : (c : Slot) → 1024 + n < length xs → 0 < c.node → Packed (set xs (1024 + n) c) (n + 1)
   packed_spill c within some = (

@@ -19,8 +19,10 @@ pub(crate) fn erase(ring: &mut Ring, from: usize)
     ensures held { held ring.new.slots + 1 ≡ held ring.old.slots }
     ensures pairs { pairs_of ring.new.slots ≡ with_pair (pairs_of ring.old.slots) (node_at ring.old.slots from) Nothing }
 {
+    // the ring is not spread again before the walk ends, so the walk is on its slots
     let slots = &mut ring.slots;
     slots[from] = EMPTY;
+    // by steps, as Closes counts: each turn reads a slot and writes the one before
     for step in 0..SLOTS - 1 {
         let next = (from + step + 1) % SLOTS;
         let follower = slots[next];

@@ -15,6 +15,7 @@ pub(crate) fn find(ring: &Ring, node: u64) -> Result<usize, usize>
     ensures absent { MatchResult result (λ at. at < 1024) (λ _. Absent ring.now.slots node) }
 {
     let start = home(node);
+    // by steps from the home, and not by slots: a resident's rank is compared with the step
     for step in 0..SLOTS {
         let at = (start + step) % SLOTS;
         let resident = ring.slots[at].node;

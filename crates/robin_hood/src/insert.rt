@@ -21,6 +21,7 @@ pub(crate) fn insert(ring: &mut Ring, new: Slot)
 {
     let start = home(new.node);
     let mut carried = new;
+    // by steps, as Settles counts: the two ranges of slots up to the end and from 0 on are one walk
     for step in 0..SLOTS {
         let at = (start + step) % SLOTS;
         let resident = ring.slots[at];

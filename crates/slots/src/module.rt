@@ -1,4 +1,5 @@
-// A memory module.
+// A memory module as a dictionary, whatever its layout. At most 768 slots are taken and counted, and
+// the tally fits its type: what every call relies on and keeps.
 ghost use Rattle.std.specs.Prelude.{◌≡◌, ◌^◌, ◌<◌, ◌≤◌, drop, refl, MatchOption};
 ghost use Rattle.slots.specs.Slots.{node_at, pairs_of, nodes_of, held, Absent};
 ghost use Rattle.slots.specs.Laws.{apart_nodes, pairs_among, pairs_zero};
