@@ -4,6 +4,7 @@
 --   right       how many of the first nodes have the links of a round
 --   Cleared     the first nodes were dropped: how many had a pair, the pairs and their number after it
 --   after_put   the pairs and their number after a put
+--   Counted     a step was taken at the first numbers, one after another: how many times it answered yes, and its state after it
 --   Tried       at the capacity a new node, node 0 and one that may have a pair were put: how many of the first two were refused,
 --               and whether the third was accepted
 use Rattle.std.specs.Prelude.{◌≡◌, ℕ, zero, suc, ◌+◌, Bool, true, false, cond, ◌&&◌, Some, None, Option, ◌==◌, is_some}
@@ -28,6 +29,11 @@ pub data Cleared (f : Pairs) (held : ℕ) : ℕ → ℕ → Pairs → ℕ → Ty
   start : Cleared f held 0 0 f held
   drop : {i n h : ℕ} {u : Pairs} → Cleared f held i n u h →
       Cleared f held (i + 1) (n + cond (is_some (u (node_of i))) 1 0) (with_pair u (node_of i) None) (one_less (u (node_of i)) h)
+
+-- ---- a step at each number
+pub data Counted {F : Type 0} (step : F → ℕ → Bool → F → Type 0) (f : F) : ℕ → ℕ → F → Type 0 where
+  none : Counted step f 0 0 f
+  more : {i n : ℕ} {p q : F} (b : Bool) → Counted step f i n p → step p i b q → Counted step f (i + 1) (n + cond b 1 0) q
 
 -- ---- puts at the capacity
 abbrev pub after_put : ℕ → Pairs → ℕ → ℕ → Links → Pairs × ℕ

@@ -9,7 +9,7 @@ use crate::stages::{PAIRS, clear, fill, links, node, read_back};
 use dictionary::Dictionary;
 
 // How many of two puts were refused, and whether the third was taken.
-#[derive(Clone, Copy)]
+#[derive(Clone, Copy, Debug, PartialEq, Eq)]
 pub struct Refusals {
     pub count: u32,
     pub kept: bool,

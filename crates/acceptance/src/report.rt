@@ -5,7 +5,7 @@ ghost use Rattle.acceptance.specs.Reports.{passes};
 use std::fmt;
 
 // How many frames of a stage came out right, and the module after it.
-#[derive(Clone, Copy)]
+#[derive(Clone, Copy, Debug, PartialEq, Eq)]
 pub struct Stage {
     pub count: u32,
     pub held: usize,
@@ -13,7 +13,7 @@ pub struct Stage {
 }
 
 // Every stage of an acceptance, and whether a put of a node that had a pair was taken at the capacity.
-#[derive(Clone, Copy)]
+#[derive(Clone, Copy, Debug, PartialEq, Eq)]
 pub struct Report {
     pub capacity: usize,
     pub put: Stage,

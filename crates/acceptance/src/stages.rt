@@ -2,7 +2,7 @@
 ghost use Rattle.std.specs.Prelude.{◌≡◌, ◌+◌, ◌*◌, ◌%◌, ◌^◌, ◌≤◌, length};
 ghost use Rattle.dictionary.specs.Pairs.{raised};
 ghost use Rattle.acceptance.specs.Nodes.{factor, node_of, links_of};
-ghost use Rattle.acceptance.specs.Stages.{Filled, Cleared, has, right};
+ghost use Rattle.acceptance.specs.Stages.{Counted, Filled, Cleared, right};
 
 use dictionary::Dictionary;
 
@@ -29,6 +29,21 @@ pub fn links(i: u32, round: u16) -> (u16, u16)
     (low.wrapping_add(round), low.wrapping_mul(7) ^ round)
 }
 
+// Takes a step at each number below `count`: how many times it answers yes.
+fn how_many<F: FnMut(u32) -> bool>(count: u32, step: &mut F) -> u32
+    requires { F.IsAlwaysCallable step.old }
+    ensures few { result ≤ count }
+    ensures counted { Counted F.step step.old count result step.new }
+{
+    let mut times = 0;
+    for i in 0..count {
+        if step(i) {
+            times += 1;
+        }
+    }
+    times
+}
+
 // Puts the first `count` nodes: how many were accepted.
 pub fn fill<D: Dictionary>(store: &mut D, count: u32, round: u16) -> u32
     ensures few { result ≤ count }
@@ -36,14 +51,11 @@ pub fn fill<D: Dictionary>(store: &mut D, count: u32, round: u16) -> u32
     ensures tally { D.Dictionary.frames store.new ≡ raised (D.Dictionary.frames store.old) count }
     ensures room { D.Dictionary.room store.new ≡ D.Dictionary.room store.old }
 {
-    let mut accepted = 0;
-    for i in 0..count {
+    let mut accepted = |i| {
         let (low, high) = links(i, round);
-        if store.put(node(i), low, high).is_ok() {
-            accepted += 1;
-        }
-    }
-    accepted
+        store.put(node(i), low, high).is_ok()
+    };
+    how_many(count, &mut accepted)
 }
 
 // Gets the first `count` nodes: how many had the links of a round.
@@ -55,23 +67,8 @@ pub fn read_back<D: Dictionary>(store: &mut D, count: u32, round: u16) -> u32
     ensures tally { D.Dictionary.frames store.new ≡ raised (D.Dictionary.frames store.old) count }
     ensures room { D.Dictionary.room store.new ≡ D.Dictionary.room store.old }
 {
-    let mut right = 0;
-    for i in 0..count {
-        let (low, high) = links(i, round);
-        if is_pair(store.get(node(i)), low, high) {
-            right += 1;
-        }
-    }
-    right
-}
-
-fn is_pair(found: Option<(u16, u16)>, low: u16, high: u16) -> bool
-    ensures { result ≡ has found (low, high) }
-{
-    match found {
-        Some((l, h)) => l == low && h == high,
-        None => false,
-    }
+    let mut right = |i| store.get(node(i)) == Some(links(i, round));
+    how_many(count, &mut right)
 }
 
 // Drops the first `count` nodes: how many had a pair.
@@ -81,11 +78,6 @@ pub fn clear<D: Dictionary>(store: &mut D, count: u32) -> u32
     ensures tally { D.Dictionary.frames store.new ≡ raised (D.Dictionary.frames store.old) count }
     ensures room { D.Dictionary.room store.new ≡ D.Dictionary.room store.old }
 {
-    let mut dropped = 0;
-    for i in 0..count {
-        if store.drop_pair(node(i)) {
-            dropped += 1;
-        }
-    }
-    dropped
+    let mut had = |i| store.drop_pair(node(i));
+    how_many(count, &mut had)
 }

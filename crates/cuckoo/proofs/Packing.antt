@@ -1,6 +1,6 @@
 -- The overflow row, which is packed at its front.
-use Rattle.std.proofs.Common.{◌≡◌, ℕ, ◌+◌, ◌-◌, ◌<◌, ◌≤◌, List, length, drop, set, replicate, sym, ap, ◌∙◌, ⊎_elim, arith}
-use Rattle.std.proofs.lemmas.List.{get_or-drop}
+use Rattle.std.proofs.Common.{◌≡◌, ℕ, ◌+◌, ◌-◌, ◌<◌, ◌≤◌, List, length, drop, take, set, replicate, sym, ap, ◌∙◌, ⊎_elim, arith}
+use Rattle.std.proofs.lemmas.List.{get_or-drop, get_or-take, length-drop, length-take-le}
 use Rattle.std.proofs.lemmas.Bool.{cases_lt, cases_eq}
 use Rattle.slots.specs.declared.Slot.{Slot}
 use Rattle.slots.specs.Slots.{blank, node_at, held}
@@ -27,19 +27,20 @@ module _ (xs : List Slot) (n : ℕ) (packed : Packed xs n) where
       ⊎_elim (λ (a : length xs - 1024 < n). omega (arith, taken_within xs (1024 + (length xs - 1024)) (packed.0 (length xs - 1024) a))) (λ (b : n ≤ length xs - 1024). b)
       (cases_lt (length xs - 1024) n)
 
+  -- the taken slots as a row of their own, of m slots
+  module _ (m : ℕ) (is : m ≡ n) where
+    abbrev part : List Slot
+    part = take m (drop 1024 xs)
+
+    pub part_long : length part ≡ n
+    part_long = length-take-le m (drop 1024 xs) (omega (arith, length-drop 1024 xs, packed_within)) ∙ is
+
+    pub part_at : (k : ℕ) → k < n → node_at part k ≡ node_at xs (1024 + k)
+    part_at k h = ap (λ (s : Slot). s.node) (get_or-take m (drop 1024 xs) k blank (omega arith) ∙ get_or-drop 1024 xs k blank)
+
   -- a slot of the two rows is written
   pub packed_below : (p : ℕ) (c : Slot) → p < length xs → p < 1024 → Packed (set xs p c) n
   packed_below p c within low = packed_like xs (set xs p c) n (λ k. node_other xs p c within (1024 + k) (omega arith)) packed
-
-  -- a node gets new links
-  pub packed_renew : (p : ℕ) (c : Slot) → p < length xs → node_at xs p ≡ c.node → Packed (set xs p c) n
-  packed_renew p c within same =
-      packed_like xs (set xs p c) n
-      (λ k. ⊎_elim
-      (λ (a : 1024 + k ≡ p). ap (node_at (set xs p c)) a ∙ node_same xs p c within ∙ sym same ∙ sym (ap (node_at xs) a))
-      (λ (na : 1024 + k ≡ p → ⊥). node_other xs p c within (1024 + k) na)
-      (cases_eq (1024 + k) p))
-      packed
 
   -- a pair spills to the first free slot
   pub packed_spill : (c : Slot) → 1024 + n < length xs → 0 < c.node → Packed (set xs (1024 + n) c) (n + 1)

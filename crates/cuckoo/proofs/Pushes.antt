@@ -16,10 +16,6 @@ pub record Pushing (xs₀ : List Slot) (new : Slot) (n : ℕ) (xs : List Slot) (
   pub below : at < 1024
   pub home : home_of at c.node ≡ at
 
-pub push_start : (xs : List Slot) (n : ℕ) (c : Slot) (at : ℕ) → at ≡ first_of c.node → length xs ≡ 1792 → Placed xs → Packed xs n → Apart xs → 0 < c.node → Absent xs c.node → Pushing xs c n xs c at
-push_start xs n c at is long placed packed apart some absent =
-    record { carried = carried_start long apart some absent; placed = placed; packed = packed; below = omega (arith, first_below c.node); home = rw is (home_first c.node) }
-
 module _ {xs₀ : List Slot} {new : Slot} {n : ℕ} {xs : List Slot} {c : Slot} {at : ℕ} (s : Pushing xs₀ new n xs c at) where
   pub at_within : at < length xs
   at_within = omega (arith, s.carried.long, s.below)

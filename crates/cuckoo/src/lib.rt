@@ -6,5 +6,5 @@ mod erase;
 mod find;
 mod homes;
 mod insert;
-mod renew;
 pub mod table;
+mod two_rows;

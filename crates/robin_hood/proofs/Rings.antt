@@ -86,13 +86,6 @@ spread_set xs t c long s fits up j =
     (cases_eq ((j + 1) % 1024) p))
     (cases_eq (j % 1024) p)
 
--- the node in a slot stays
-pub spread_same : (xs : List Slot) (p : ℕ) (c : Slot) → p < length xs → Spread xs → node_at xs p ≡ c.node → Spread (set xs p c)
-spread_same xs p c within s same j =
-    let like : (i : ℕ) → rank_at (set xs p c) i ≡ rank_at xs i = λ i.
-    ⊎_elim (λ (a : i ≡ p). rank_same xs p c within i a ∙ ap (rank_of p) (sym same) ∙ sym (ap (rank_at xs) a)) (λ (na : i ≡ p → ⊥). rank_other xs p c within i na) (cases_eq i p) in
-    omega (arith, s j, like ((j + 1) % 1024), like (j % 1024))
-
 -- a row of empty slots
 pub fresh_spread : (n : ℕ) → Spread (replicate n blank)
 fresh_spread n j = omega (arith, rank_zero ((j + 1) % 1024) (node_at (replicate n blank) ((j + 1) % 1024)) (fresh_node n ((j + 1) % 1024)))

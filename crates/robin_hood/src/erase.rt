@@ -2,27 +2,27 @@
 // Spread and Apart, and on an empty slot to end at.
 ghost use Rattle.std.specs.Prelude.{◌≡◌, ◌+◌, ◌<◌, None as Nothing};
 ghost use Rattle.dictionary.specs.Pairs.{with_pair};
-ghost use Rattle.robin_hood.specs.Layout.{Spread, Closes};
-ghost use Rattle.slots.specs.Slots.{node_at, pairs_of, held, Apart};
+ghost use Rattle.robin_hood.specs.Layout.{Closes};
+ghost use Rattle.slots.specs.Slots.{node_at, pairs_of, held};
 
 use crate::home::{AT_HOME, SLOTS, rank};
-use slots::{EMPTY, Slot};
+use crate::ring::Ring;
+use slots::EMPTY;
 
 // Takes the pair in the slot `from` away, and moves the followers back by one, up to an empty slot
 // or one of displacement 0.
-pub(crate) fn erase(slots: &mut [Slot; 1024], from: usize)
-    requires spread { Spread slots.old }
-    requires apart { Apart slots.old }
+pub(crate) fn erase(ring: &mut Ring, from: usize)
     requires within { from < 1024 }
-    requires some { 0 < node_at slots.old from }
-    requires room { held slots.old < 1024 }
-    ensures closes { Closes slots.old from slots.new }
-    ensures spread { Spread slots.new }
-    ensures apart { Apart slots.new }
-    ensures held { held slots.new + 1 ≡ held slots.old }
-    ensures pairs { pairs_of slots.new ≡ with_pair (pairs_of slots.old) (node_at slots.old from) Nothing }
+    requires some { 0 < node_at ring.old.slots from }
+    requires room { held ring.old.slots < 1024 }
+    ensures closes { Closes ring.old.slots from ring.new.slots }
+    ensures held { held ring.new.slots + 1 ≡ held ring.old.slots }
+    ensures pairs { pairs_of ring.new.slots ≡ with_pair (pairs_of ring.old.slots) (node_at ring.old.slots from) Nothing }
 {
+    // the ring is not spread again before the walk ends, so the walk is on its slots
+    let slots = &mut ring.slots;
     slots[from] = EMPTY;
+    // by steps, as Closes counts: each turn reads a slot and writes the one before
     for step in 0..SLOTS - 1 {
         let next = (from + step + 1) % SLOTS;
         let follower = slots[next];

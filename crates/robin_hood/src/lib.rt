@@ -6,5 +6,5 @@ mod erase;
 mod find;
 mod home;
 mod insert;
-mod renew;
+mod ring;
 pub mod table;

@@ -1,51 +1,9 @@
--- A row of slots as a dictionary's pairs and nodes, and what a put or a drop answers for it.
-use Rattle.std.proofs.Common.{◌≡◌, ℕ, zero, suc, ◌<◌, ◌≤◌, true, false, List, [], ◌∷◌, is_some, Some, None, Option, sym, refl, ap, ◌∙◌, inl, inr, ⊎_elim, arith}
+-- What a put or a drop answers for a dictionary.
+use Rattle.std.proofs.Common.{◌≡◌, ℕ, ◌<◌, ◌≤◌, true, false, is_some, Some, None, Option, sym, ap, ◌∙◌, ⊎_elim, arith}
 use mathlib.Core.Path.{fun_ext}
 use Rattle.std.proofs.lemmas.Bool.{cases_eq, cond-true, cond-false, eq-eqb, ne_eqb}
 use Rattle.std.proofs.lemmas.Bool.Decides.{nat_tests}
-use Rattle.dictionary.specs.Pairs.{Links, Pairs, with_pair, among, apart, accepts}
-use Rattle.slots.specs.declared.Slot.{Slot}
-use Rattle.slots.specs.Slots.{seek, pairs_of, nodes_of, Apart, Absent}
-
-no_zero : (xs : List Slot) → among 0 (nodes_of xs) ≡ false
-unfolding nodes_of
-no_zero [] = refl
-no_zero (s ∷ ss) = let more = no_zero ss in grind (arith, nat_tests)
-
-seek_among : (xs : List Slot) (n : ℕ) → (n ≡ 0 → ⊥) → is_some (seek xs n) ≡ among n (nodes_of xs)
-unfolding nodes_of seek
-seek_among [] n nz = refl
-seek_among (s ∷ ss) n nz = let more = seek_among ss n nz in grind (arith, nat_tests)
-
--- a node has a pair if it stands in the row
-pub pairs_among : (xs : List Slot) (n : ℕ) → is_some (pairs_of xs n) ≡ among n (nodes_of xs)
-unfolding pairs_of
-pairs_among xs n = elim (cases_eq n 0) [
-  | inl e ↦ rw e (sym (no_zero xs))
-  | inr e ↦ let at = seek_among xs n e in grind (arith, nat_tests)
-]
-
--- a node that stands in no slot is not among the nodes
-absent_among : (xs : List Slot) (n : ℕ) → Absent xs n → among n (nodes_of xs) ≡ false
-unfolding nodes_of
-absent_among [] n none = refl
-absent_among (s ∷ ss) n none =
-    let more = absent_among ss n (λ i. none (suc i)) in
-    let other : s.node ≡ n → ⊥ = none zero in
-    grind (arith, nat_tests)
-
--- no node is twice among the nodes
-pub apart_nodes : (xs : List Slot) → Apart xs → apart (nodes_of xs) ≡ true
-unfolding nodes_of
-apart_nodes [] a = refl
-apart_nodes (s ∷ ss) a =
-    let more = apart_nodes ss (λ j k pe. let q : suc j ≡ suc k = a (suc j) (suc k) pe in omega arith) in
-    elim (cases_eq s.node 0) [
-      | inl e ↦ grind (arith, nat_tests)
-      | inr e ↦ (
-          let none = absent_among ss s.node (λ i is. let q : zero ≡ suc i = a zero (suc i) (omega arith, sym is) in omega arith) in
-          grind (arith, nat_tests))
-    ]
+use Rattle.dictionary.specs.Pairs.{Links, Pairs, with_pair, accepts}
 
 -- the pair of a node is put as it is
 pub with_same : (f : Pairs) (n : ℕ) (v : Option Links) → f n ≡ v → f ≡ with_pair f n v
@@ -53,11 +11,11 @@ with_same f n v e =
     fun_ext (λ m. ⊎_elim (λ (a : m ≡ n). ap f a ∙ e ∙ sym (cond-true _ _ _ (eq-eqb m n a))) (λ (na : m ≡ n → ⊥). sym (cond-false _ _ _ (ne_eqb m n na))) (cases_eq m n))
 
 module _ (f : Pairs) (count capacity n : ℕ) where
+  pub accepts_zero : n ≡ 0 → accepts f count capacity n ≡ false
+  accepts_zero z = grind (arith, nat_tests)
+
   pub accepts_held : {v : Links} → 0 < n → f n ≡ Some v → accepts f count capacity n ≡ true
   accepts_held pos e = grind (arith, nat_tests, ap is_some e)
-
-  pub accepts_room : 0 < n → count < capacity → accepts f count capacity n ≡ true
-  accepts_room pos h = grind (arith, nat_tests)
 
   pub accepts_full : f n ≡ None → capacity ≤ count → accepts f count capacity n ≡ false
   accepts_full e h = grind (arith, nat_tests, ap is_some e)

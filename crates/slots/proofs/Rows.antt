@@ -5,6 +5,7 @@ use Rattle.std.proofs.lemmas.List.{get_or-set_same, get_or-set_other}
 use Rattle.std.proofs.lemmas.Bool.{cases_eq, cond-true, cond-false, eq-eqb, ne_eqb}
 use Rattle.dictionary.specs.Pairs.{with_pair, no_pairs}
 use Rattle.slots.specs.declared.Slot.{Slot}
+use Rattle.slots.specs.Laws.{pairs_zero}
 use Rattle.slots.specs.Slots.{blank, node_at, links_of, seek, pairs_of, Apart, Absent}
 
 -- a taken slot lies within the row
@@ -26,10 +27,6 @@ unfolding seek
 seek_absent [] n none = refl
 seek_absent (s ∷ ss) n none = cond-false _ _ _ (ne_eqb s.node n (none zero)) ∙ seek_absent ss n (λ i. none (suc i))
 
-pub pairs_zero : (xs : List Slot) (n : ℕ) → n ≡ 0 → pairs_of xs n ≡ None
-unfolding pairs_of
-pairs_zero xs n z = cond-true _ _ _ (eq-eqb n 0 z)
-
 pub pairs_found : (xs : List Slot) → Apart xs → (i n : ℕ) → 0 < n → node_at xs i ≡ n → pairs_of xs n ≡ links_of (get_or xs i blank)
 unfolding pairs_of
 pairs_found xs apart i n pos is = cond-false _ _ _ (ne_eqb n 0 (omega arith)) ∙ seek_found xs apart i n pos is
@@ -37,6 +34,10 @@ pairs_found xs apart i n pos is = cond-false _ _ _ (ne_eqb n 0 (omega arith)) �
 pub pairs_absent : (xs : List Slot) (n : ℕ) → 0 < n → Absent xs n → pairs_of xs n ≡ None
 unfolding pairs_of
 pairs_absent xs n pos none = cond-false _ _ _ (ne_eqb n 0 (omega arith)) ∙ seek_absent xs n none
+
+-- a node that stands nowhere, or is 0, has no pair
+pub pairs_none : (xs : List Slot) (n : ℕ) → (0 < n → Absent xs n) → pairs_of xs n ≡ None
+pairs_none xs n none = ⊎_elim (λ (z : n ≡ 0). pairs_zero xs n z) (λ (nz : n ≡ 0 → ⊥). pairs_absent xs n (omega arith) (none (omega arith))) (cases_eq n 0)
 
 -- a node stands somewhere or nowhere
 pub somewhere : (xs : List Slot) (n : ℕ) → 0 < n → ((i : ℕ) × (node_at xs i ≡ n)) ⊎ Absent xs n

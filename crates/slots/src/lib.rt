@@ -1,12 +1,17 @@
-// What the hash tables share: slots, of which each holds one pair or is empty, and the tally. What a
-// row of slots means, and what a written slot changes in it, is proved here for rows of any length.
+// What the makes share: slots, of which each holds one pair or is empty, the tally, and the module as
+// a dictionary, over any layout of its slots. What a row of slots means, and what a written slot
+// changes in it, is proved here for rows of any length.
 #![tactic(auto)]
 
 ghost use Rattle.std.specs.Prelude.{◌≡◌};
 ghost use Rattle.dictionary.specs.Pairs.{raised};
 
-// A node with its two links. Node 0 marks an empty slot.
-#[derive(Clone, Copy)]
+pub mod layout;
+pub mod module;
+
+// A node with its two links. Node 0 marks an empty slot: the format of the modules has no room for
+// more, as an Option would need.
+#[derive(Clone, Copy, Debug, PartialEq, Eq)]
 pub struct Slot {
     pub node: u64,
     pub low: u16,

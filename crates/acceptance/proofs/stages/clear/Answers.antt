@@ -1,30 +1,32 @@
-use Rattle.std.proofs.Common.{◌≡◌, ◌+◌, cond, length, refl, ◌∙◌, arith}
-use Rattle.acceptance.specs.Stages.{start}
-use Rattle.acceptance.proofs.Steps.{cleared_more, counted_one, counted_none, counted_most}
-use Rattle.acceptance.proofs.stages.clear.Given as given
+use Rattle.std.proofs.Common.{◌≡◌, length, rules, is_some, refl, ◌∙◌, None, arith}
+use Rattle.dictionary.specs.Pairs.{raised, with_pair, one_less}
+use Rattle.acceptance.specs.Nodes.{node_of}
+use Rattle.acceptance.specs.Stages.{Cleared, start, drop}
+use Rattle.acceptance.proofs.Steps.{counted_keeps}
 use Rattle.acceptance.proofs.stages.clear.Goals as goal
-use Rattle.acceptance.proofs.stages.clear.Goals.{then-drop_pair, else-drop_pair}
 
-pub loop-i-init : goal.loop-i-init
-loop-i-init g c = let h = g.met.D.Dictionary.counts c.args.store.now in record { few = omega arith; cleared = start; tally = omega arith; room = refl }
-
-counted : (g : given.Over) (c : goal.Joined-drop_pair g) → c.if-drop_pair.dropped ≡ c.loop-i.dropped + cond c.drop_pair.result 1 0
-counted g c = elim c.if-drop_pair.branch [
-  | then-drop_pair w ↦ counted_one c.loop-i.dropped c.if-drop_pair.dropped c.drop_pair.result w.if-drop_pair.true w.dropped-is
-  | else-drop_pair w ↦ counted_none c.loop-i.dropped c.if-drop_pair.dropped c.drop_pair.result w.if-drop_pair.false w.dropped-is
-]
-
-pub loop-i-preserved : goal.loop-i-preserved
-loop-i-preserved g c =
+pub returns : goal.returns
+returns g c =
     let d = g.D.Dictionary in
-    let l = c.loop-i in
-    let drop = c.drop_pair in
-    record {
-      few = counted_most l.dropped c.if-drop_pair.dropped l.i drop.result (counted g c) l.invariant.few;
-      cleared =
-          cleared_more (d.pairs c.args.store.now) (length (d.nodes c.args.store.now)) l.i l.dropped c.if-drop_pair.dropped (d.pairs l.store) (d.pairs drop.new.self)
-          (length (d.nodes l.store)) (length (d.nodes drop.new.self)) c.node.result drop.result l.invariant.cleared c.node.ensures.value drop.ensures.value drop.ensures.pairs
-          drop.ensures.held (counted g c);
-      tally = omega (arith, drop.ensures.tally, l.invariant.tally);
-      room = drop.ensures.room ∙ l.invariant.room;
-    }
+    let s = c.args.store.now in
+    let h = g.met.D.Dictionary.counts s in
+    let kept =
+    counted_keeps
+    (λ f i n q. record {
+      cleared : Cleared (d.pairs s) (length (d.nodes s)) i n (d.pairs q.0.now) (length (d.nodes q.0.now));
+      tally : d.frames q.0.now ≡ raised (d.frames s) i;
+      room : d.room q.0.now ≡ d.room s;
+      name : q.0.ghost_name ≡ f.0.ghost_name;
+    })
+    (record { cleared = start; tally = omega arith; room = refl; name = refl })
+    (λ i n p q b k e.
+    let hit : b ≡ is_some (d.pairs p.0.now (node_of i)) = search rules in
+    let pairs : d.pairs q.0.now ≡ with_pair (d.pairs p.0.now) (node_of i) None = search rules in
+    let held : length (d.nodes q.0.now) ≡ one_less (d.pairs p.0.now (node_of i)) (length (d.nodes p.0.now)) = search rules in
+    let tally : d.frames q.0.now ≡ raised (d.frames p.0.now) 1 = search rules in
+    let room : d.room q.0.now ≡ d.room p.0.now = search rules in
+    let name : q.0.ghost_name ≡ p.0.ghost_name = search rules in
+    record { cleared = rw (hit, pairs, held) (drop k.cleared); tally = omega (arith, tally, k.tally); room = room ∙ k.room; name = name ∙ k.name })
+    _ _ _ c.how_many.ensures.counted in
+    let name = kept.name in
+    record { few = c.how_many.ensures.few; cleared = search rules; tally = search rules; room = search rules }

@@ -1,30 +1,42 @@
-use Rattle.std.proofs.Common.{◌≡◌, ◌+◌, cond, length, is_ok, refl, sym, ◌∙◌, arith}
-use Rattle.acceptance.specs.Stages.{start}
-use Rattle.acceptance.proofs.Steps.{filled_more, counted_one, counted_none, counted_most}
-use Rattle.acceptance.proofs.stages.fill.Given as given
+use Rattle.std.proofs.Common.{◌≡◌, length, rules, cond, refl, ◌∙◌, Some, arith}
+use Rattle.dictionary.specs.Pairs.{raised, with_pair, one_more, accepts}
+use Rattle.acceptance.specs.Nodes.{node_of, links_of}
+use Rattle.acceptance.specs.Stages.{Filled, start}
+use Rattle.acceptance.proofs.Steps.{counted_keeps, filled_more}
 use Rattle.acceptance.proofs.stages.fill.Goals as goal
-use Rattle.acceptance.proofs.stages.fill.Goals.{then-is_ok, else-is_ok}
 
-pub loop-i-init : goal.loop-i-init
-loop-i-init g c = let h = g.met.D.Dictionary.counts c.args.store.now in record { few = omega arith; filled = start; tally = omega arith; room = refl }
-
-counted : (g : given.Over) (c : goal.Joined-is_ok g) → c.if-is_ok.accepted ≡ c.loop-i.accepted + cond (is_ok c.put.result) 1 0
-counted g c = elim c.if-is_ok.branch [
-  | then-is_ok w ↦ counted_one c.loop-i.accepted c.if-is_ok.accepted (is_ok c.put.result) (sym c.is_ok.ensures.value ∙ w.if-is_ok.true) w.accepted-is
-  | else-is_ok w ↦ counted_none c.loop-i.accepted c.if-is_ok.accepted (is_ok c.put.result) (sym c.is_ok.ensures.value ∙ w.if-is_ok.false) w.accepted-is
-]
-
-pub loop-i-preserved : goal.loop-i-preserved
-loop-i-preserved g c =
+pub returns : goal.returns
+returns g c =
     let d = g.D.Dictionary in
-    let l = c.loop-i in
-    let put = c.put in
+    let s = c.args.store.now in
+    let h = g.met.D.Dictionary.counts s in
+    let kept =
+    counted_keeps
+    (λ f i n q. record {
+      filled : Filled (d.room s) c.args.round (d.pairs s) (length (d.nodes s)) i n (d.pairs q.1.now) (length (d.nodes q.1.now));
+      tally : d.frames q.1.now ≡ raised (d.frames s) i;
+      room : d.room q.1.now ≡ d.room s;
+      round : q.0.now ≡ c.args.round;
+      name : q.1.ghost_name ≡ f.1.ghost_name;
+    })
+    (record { filled = start; tally = omega arith; room = refl; round = refl; name = refl })
+    (λ i n p q b k e.
+    let u = d.pairs p.1.now in
+    let m = length (d.nodes p.1.now) in
+    let ok : b ≡ accepts u m (d.room p.1.now) (node_of i) = search rules in
+    let pairs : d.pairs q.1.now ≡ cond b (with_pair u (node_of i) (Some (links_of i p.0.now))) u = search rules in
+    let held : length (d.nodes q.1.now) ≡ cond b (one_more (u (node_of i)) m) m = search rules in
+    let tally : d.frames q.1.now ≡ raised (d.frames p.1.now) 1 = search rules in
+    let room : d.room q.1.now ≡ d.room p.1.now = search rules in
+    let round : q.0.now ≡ p.0.now = search rules in
+    let name : q.1.ghost_name ≡ p.1.ghost_name = search rules in
     record {
-      few = counted_most l.accepted c.if-is_ok.accepted l.i (is_ok put.result) (counted g c) l.invariant.few;
-      filled =
-          filled_more (d.room c.args.store.now) (d.room l.store) c.args.round (d.pairs c.args.store.now) (length (d.nodes c.args.store.now)) l.i l.accepted c.if-is_ok.accepted
-          (d.pairs l.store) (d.pairs put.new.self) (length (d.nodes l.store)) (length (d.nodes put.new.self)) c.node.result c.links-low.result (is_ok put.result)
-          l.invariant.filled l.invariant.room c.node.ensures.value c.links-low.ensures put.ensures.value put.ensures.pairs put.ensures.held (counted g c);
-      tally = omega (arith, put.ensures.tally, l.invariant.tally);
-      room = put.ensures.room ∙ l.invariant.room;
-    }
+      filled = rw (pairs, held, k.round) (filled_more b k.filled (rw (← k.room) ok));
+      tally = omega (arith, tally, k.tally);
+      room = room ∙ k.room;
+      round = round ∙ k.round;
+      name = name ∙ k.name;
+    })
+    _ _ _ c.how_many.ensures.counted in
+    let name = kept.name in
+    record { few = c.how_many.ensures.few; filled = search rules; tally = search rules; room = search rules }

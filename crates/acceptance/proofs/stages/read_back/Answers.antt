@@ -1,34 +1,45 @@
-use Rattle.std.proofs.Common.{◌≡◌, ◌+◌, cond, refl, ◌∙◌, arith}
-use Rattle.acceptance.specs.Stages.{right}
-use Rattle.acceptance.proofs.Steps.{right_more, counted_one, counted_none, counted_most}
-use Rattle.acceptance.proofs.stages.read_back.Given as given
+use Rattle.std.proofs.Common.{◌≡◌, length, rules, refl, ◌∙◌, add-one, arith}
+use Rattle.dictionary.specs.Pairs.{raised}
+use Rattle.acceptance.specs.Nodes.{node_of, links_of}
+use Rattle.acceptance.specs.Stages.{has, right}
+use Rattle.acceptance.proofs.Steps.{counted_keeps}
 use Rattle.acceptance.proofs.stages.read_back.Goals as goal
-use Rattle.acceptance.proofs.stages.read_back.Goals.{then-is_pair, else-is_pair}
 
-pub loop-i-init : goal.loop-i-init
+pub returns : goal.returns
 unfolding right
-loop-i-init g c =
-    let h = g.met.D.Dictionary.counts c.args.store.now in
-    record { few = omega arith; right = refl; tally = omega arith; room = refl; pairs = refl; held = refl }
-
-counted : (g : given.Over) (c : goal.Joined-is_pair g) → c.if-is_pair.right ≡ c.loop-i.right + cond c.is_pair.result 1 0
-counted g c = elim c.if-is_pair.branch [
-  | then-is_pair w ↦ counted_one c.loop-i.right c.if-is_pair.right c.is_pair.result w.if-is_pair.true w.right-is
-  | else-is_pair w ↦ counted_none c.loop-i.right c.if-is_pair.right c.is_pair.result w.if-is_pair.false w.right-is
-]
-
-pub loop-i-preserved : goal.loop-i-preserved
-loop-i-preserved g c =
+returns g c =
     let d = g.D.Dictionary in
-    let l = c.loop-i in
-    let get = c.get in
+    let s = c.args.store.now in
+    let h = g.met.D.Dictionary.counts s in
+    let kept =
+    counted_keeps
+    (λ f i n q. record {
+      right : n ≡ right (d.pairs s) c.args.round i;
+      pairs : d.pairs q.0.now ≡ d.pairs s;
+      held : length (d.nodes q.0.now) ≡ length (d.nodes s);
+      tally : d.frames q.0.now ≡ raised (d.frames s) i;
+      room : d.room q.0.now ≡ d.room s;
+      round : q.1.now ≡ c.args.round;
+      name : q.0.ghost_name ≡ f.0.ghost_name;
+    })
+    (record { right = refl; pairs = refl; held = refl; tally = omega arith; room = refl; round = refl; name = refl })
+    (λ i n p q b k e.
+    let hit : b ≡ has (d.pairs p.0.now (node_of i)) (links_of i p.1.now) = search rules in
+    let pairs : d.pairs q.0.now ≡ d.pairs p.0.now = search rules in
+    let held : length (d.nodes q.0.now) ≡ length (d.nodes p.0.now) = search rules in
+    let tally : d.frames q.0.now ≡ raised (d.frames p.0.now) 1 = search rules in
+    let room : d.room q.0.now ≡ d.room p.0.now = search rules in
+    let round : q.1.now ≡ p.1.now = search rules in
+    let name : q.0.ghost_name ≡ p.0.ghost_name = search rules in
     record {
-      few = counted_most l.right c.if-is_pair.right l.i c.is_pair.result (counted g c) l.invariant.few;
-      right =
-          right_more (d.pairs c.args.store.now) (d.pairs l.store) c.args.round l.i l.right c.if-is_pair.right c.node.result c.links-low.result get.result c.is_pair.result
-          l.invariant.right l.invariant.pairs c.node.ensures.value c.links-low.ensures get.ensures.value c.is_pair.ensures (counted g c);
-      tally = omega (arith, get.ensures.tally, l.invariant.tally);
-      room = get.ensures.room ∙ l.invariant.room;
-      pairs = get.ensures.pairs ∙ l.invariant.pairs;
-      held = get.ensures.held ∙ l.invariant.held;
-    }
+      right = rw (add-one, hit, k.right, k.pairs, k.round) refl;
+      pairs = pairs ∙ k.pairs;
+      held = held ∙ k.held;
+      tally = omega (arith, tally, k.tally);
+      room = room ∙ k.room;
+      round = round ∙ k.round;
+      name = name ∙ k.name;
+    })
+    _ _ _ c.how_many.ensures.counted in
+    let name = kept.name in
+    record { few = c.how_many.ensures.few; right = kept.right; pairs = search rules; held = search rules; tally = search rules; room = search rules }

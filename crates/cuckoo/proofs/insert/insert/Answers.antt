@@ -3,11 +3,8 @@ use mathlib.Core.Path.{fun_ext}
 use Rattle.slots.specs.Slots.{node_at}
 use Rattle.slots.proofs.Carried.{put_apart, put_held, put_pairs}
 use Rattle.cuckoo.specs.Layout.{rests, pushes, spills}
-use Rattle.cuckoo.proofs.Pushes.{push_start, at_within, put_placed, put_packed, pushed, spill_within, spill_placed, spill_packed, spill_empty}
+use Rattle.cuckoo.proofs.Pushes.{at_within, pushed, spill_within, spill_placed, spill_packed, spill_empty}
 use Rattle.cuckoo.proofs.insert.insert.Goals as goal
-
-pub loop-push-init : goal.loop-push-init
-loop-push-init c = (push_start _ _ _ _ c.first-at.ensures.value (omega arith) c.requires.placed c.requires.packed c.requires.apart c.requires.some c.requires.absent, λ ys m h. h)
 
 pub returns-then-resident-eq0 : goal.returns-then-resident-eq0
 returns-then-resident-eq0 c =
@@ -17,9 +14,6 @@ returns-then-resident-eq0 c =
     let k : 32 - c.loop-push._push ≡ suc (31 - c.loop-push._push) = omega arith in
     record {
       settles = rw (← c.first-at.ensures.value) (c.loop-push.invariant.1 _ _ (rw k (rests empty)));
-      placed = put_placed s;
-      apart = put_apart s.carried _ h;
-      packed = put_packed s;
       held = put_held s.carried _ h empty;
       pairs = fun_ext (put_pairs s.carried _ h empty);
     }
@@ -27,14 +21,20 @@ returns-then-resident-eq0 c =
 pub loop-push-preserved : goal.loop-push-preserved
 loop-push-preserved c =
     let k : 32 - c.loop-push._push ≡ suc (32 - (c.loop-push._push + 1)) = omega arith in
-    let taken : 0 < node_at c.loop-push.slots c.loop-push.at = omega arith in
+    let taken : 0 < node_at c.loop-push.rows.slots c.loop-push.at = omega arith in
     (pushed c.loop-push.invariant.0 (omega arith) c.other-at.result c.other-at.ensures.below c.other-at.ensures.home, λ ys m h. c.loop-push.invariant.1 ys m (rw k (pushes {at = c.loop-push.at} taken (rw c.other-at.ensures.value at h))))
 
-pub bounds-slots-spilled : goal.bounds-slots-spilled
-bounds-slots-spilled c = omega (arith, spill_within c.loop-push.invariant.0 c.requires.room)
+pub bounds-rows-rows : goal.bounds-rows-rows
+bounds-rows-rows c = omega (arith, spill_within c.loop-push.invariant.0 c.requires.room)
 
-pub overflow_add-result : goal.overflow_add-result
-overflow_add-result c = omega (arith, spill_within c.loop-push.invariant.0 c.requires.room)
+pub overflow_add-rows : goal.overflow_add-rows
+overflow_add-rows c = omega (arith, spill_within c.loop-push.invariant.0 c.requires.room)
+
+pub invariant_of-rows-2 : goal.invariant_of-rows-2
+invariant_of-rows-2 c =
+    let s = c.loop-push.invariant.0 in
+    let room = c.requires.room in
+    record { placed = spill_placed s room; packed = spill_packed s room; apart = put_apart s.carried _ (spill_within s room) }
 
 pub returns : goal.returns
 returns c =
@@ -45,9 +45,6 @@ returns c =
     let k : 32 - c.loop-push._push ≡ 0 = omega arith in
     record {
       settles = rw (← c.first-at.ensures.value) (c.loop-push.invariant.1 _ _ (rw k spills));
-      placed = spill_placed s room;
-      apart = put_apart s.carried _ h;
-      packed = spill_packed s room;
       held = put_held s.carried _ h empty;
       pairs = fun_ext (put_pairs s.carried _ h empty);
     }

@@ -7,5 +7,5 @@ use Rattle.cuckoo.proofs.insert.insert.Given as goal
 -- however the rest settles, the whole does
 abbrev pub invariant-loop-push : goal.invariant-loop-push
 invariant-loop-push l =
-    Pushing l.initial.slots l.initial.carried l.spilled l.slots l.carried l.at
-    × ((ys : List Slot) (m : ℕ) → Settles (32 - l._push) l.slots l.spilled l.at l.carried ys m → Settles 32 l.initial.slots l.spilled l.initial.at l.initial.carried ys m)
+    Pushing l.initial.rows.slots l.initial.carried l.rows.spilled l.rows.slots l.carried l.at
+    × ((ys : List Slot) (m : ℕ) → Settles (32 - l._push) l.rows.slots l.rows.spilled l.at l.carried ys m → Settles 32 l.initial.rows.slots l.initial.rows.spilled l.initial.at l.initial.carried ys m)

@@ -13,7 +13,7 @@ returns-then-rank-step c =
     let w = c.loop-step.invariant in
     record {
       walk = (walk_reaches w (omega arith), walk_stops w (omega arith) (omega arith));
-      absent = walk_absent w c.requires.spread (omega arith) (omega arith);
+      absent = walk_absent w c.args.ring.now.spread (omega arith) (omega arith);
     }
 
 pub loop-step-preserved : goal.loop-step-preserved

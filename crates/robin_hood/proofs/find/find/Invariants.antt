@@ -2,4 +2,4 @@ use Rattle.robin_hood.proofs.Walks.{Walked}
 use Rattle.robin_hood.proofs.find.find.Given as goal
 
 abbrev pub invariant-loop-step : goal.invariant-loop-step
-invariant-loop-step l = Walked l.slots l.node l.start l.step
+invariant-loop-step l = Walked l.ring.slots l.node l.start l.step

@@ -6,5 +6,5 @@ use Rattle.robin_hood.proofs.insert.insert.Given as goal
 
 abbrev pub invariant-loop-step : goal.invariant-loop-step
 invariant-loop-step l =
-    Carrying l.initial.slots l.initial.carried l.start l.slots l.carried l.step
-    × ((ys : List Slot) → Settles l.slots (l.start + l.step) l.carried ys → Settles l.initial.slots l.start l.initial.carried ys)
+    Carrying l.initial.ring.slots l.initial.carried l.start l.ring.slots l.carried l.step
+    × ((ys : List Slot) → Settles l.ring.slots (l.start + l.step) l.carried ys → Settles l.initial.ring.slots l.start l.initial.carried ys)
