@@ -1,8 +1,9 @@
 -- Numbers in their bytes, and records in theirs: each is found again from the other.
 --
 --   zeros_after   eight bytes of which all but the first are zero
---   eight_by      a list begun by the eight bytes of a number
---   chunked       32 bytes are those of the record that is read in their four chunks
+--   eight_is      the first eight bytes of more are those of the number read in them
+--   after         a list in its first eight bytes and the rest
+--   chunked       32 bytes are those of a code and the three numbers read after it
 --   wire_same     records that fit their fields and have the same bytes are one
 use Rattle.std.proofs.Common.{◌≡◌, ℕ, ◌-◌, ◌<◌, ◌≤◌, List, ◌++◌, length, get_or, take, drop, sym, ap, ◌∙◌, arith, length-take-le, length-drop, drop-cons}
 use Rattle.std.proofs.lemmas.Grind.{common_steps}
