@@ -1,44 +1,49 @@
 // What is wrong with a command's keys, before any frame: one is too large for its kind, or a lease's two
 // keys are out of order or on two pistes.
-ghost use Rattle.std.specs.Prelude.{◌≡◌};
+ghost use Rattle.std.specs.Prelude.{◌≡◌, ◌^◌, nat_le};
 ghost use Rattle.leases.specs.Checks.{early as early_of, unfit as unfit_of};
 
+use key::Key;
+use key::kinds::{Moment, Name, Station};
 use ordered::Refusal;
 use wire::Command;
 
-const NAMES: u64 = 0x100_0000_0000_0000;
-
-const STATIONS: u64 = 0x1_0000_0000;
-
-const MOMENTS: u64 = 0x1_0000_0000_0000;
-
+// The refusal is what is looked for, so it is an option's value and no error of a result.
 pub fn early(command: Command) -> Option<Refusal>
     ensures { result ≡ early_of command }
 {
     let large = match command {
-        Command::AddName(key, _) => key >= NAMES,
-        Command::RemoveName(key) => key >= NAMES,
-        Command::FindName(key) => key >= NAMES,
-        Command::NextName(key) => key >= NAMES,
+        Command::AddName(name, _)
+        | Command::RemoveName(name)
+        | Command::FindName(name)
+        | Command::NextName(name) => is_too_large::<Name>(name),
         Command::Lease(first, second, _) => return unfit(first, second),
-        Command::Release(start, _) => start >= STATIONS,
-        Command::Who(station) => station >= STATIONS,
-        Command::AddEvent(key, _) => key >= MOMENTS,
-        Command::RemoveEvent(key) => key >= MOMENTS,
-        Command::Due(moment) => moment >= MOMENTS,
+        Command::Release(station, _) | Command::Who(station) => is_too_large::<Station>(station),
+        Command::AddEvent(moment, _) | Command::RemoveEvent(moment) | Command::Due(moment) => {
+            is_too_large::<Moment>(moment)
+        }
     };
-    if large { Some(Refusal::TooLarge) } else { None }
+    large.then_some(Refusal::TooLarge)
+}
+
+// Whether these are no key's bits.
+fn is_too_large<K: Key>(bits: u64) -> bool
+    ensures { result ≡ nat_le (2 ^ K.Key.width) bits }
+{
+    bits >= 1u64 << K::bit_width()
 }
 
 // The two ends of a lease: their size, then their order, then their piste.
+#[tactic(auto, unfolding(crate::specs::Checks::unfit))]
 fn unfit(first: u64, second: u64) -> Option<Refusal>
     ensures { result ≡ unfit_of first second }
 {
-    if first >= STATIONS || second >= STATIONS {
-        Some(Refusal::TooLarge)
-    } else if first > second {
+    let (Some(start), Some(end)) = (Station::from_bits(first), Station::from_bits(second)) else {
+        return Some(Refusal::TooLarge);
+    };
+    if first > second {
         Some(Refusal::Order)
-    } else if first / 0x100_0000 != second / 0x100_0000 {
+    } else if start.piste() != end.piste() {
         Some(Refusal::Piste)
     } else {
         None

@@ -7,7 +7,7 @@ use wire::{Command, Holder};
 
 #[test]
 fn a_stretch(rt: HostRuntime) -> Result<(), Fail> {
-    let Some(seven) = Holder::new(7) else {
+    let Ok(seven) = Holder::try_from(7) else {
         return Err(Fail::new("no holder"));
     };
     let lease = entered(50_331_653, 50_331_657, seven);

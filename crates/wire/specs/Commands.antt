@@ -1,9 +1,8 @@
 -- The record of each command.
 --
---   fields        a command's record: its code, first key, second key and note, zero where the code uses none
---   Alone x c     c has the code and the first key of x; if any command has the fields x, it is c
---   changing      whether the code is one that changes entries where it is accepted
-use Rattle.std.specs.Prelude.{◌≡◌, ℕ, Bool, ◌||◌, ◌==◌}
+--   fields     a command's record: its code, first key, second key and note, zero where the code uses none
+--   changing   whether the code is one that changes entries where it is accepted
+use Rattle.std.specs.Prelude.{ℕ, Bool, ◌||◌, ◌==◌}
 use Rattle.wire.specs.declared.record.Record.{Record}
 use Rattle.wire.specs.declared.command.Command.{Command}
 use Rattle.wire.specs.declared.command.Command.TheVariants.{AddName, RemoveName, FindName, NextName, Lease, Release, Who, AddEvent, RemoveEvent, Due}
@@ -22,11 +21,6 @@ fields (Who s) = plain 7 s 0
 fields (AddEvent k n) = plain 8 k n
 fields (RemoveEvent k) = plain 9 k 0
 fields (Due m) = plain 10 m 0
-
-pub record Alone (x : Record) (c : Command) : Type 0 where
-  pub code : (fields c).code ≡ x.code
-  pub first : (fields c).first ≡ x.first
-  pub only : (d : Command) → fields d ≡ x → fields c ≡ x
 
 abbrev pub changing : ℕ → Bool
 changing c = c == 1 || (c == 2 || (c == 5 || (c == 6 || (c == 8 || (c == 9 || c == 10)))))

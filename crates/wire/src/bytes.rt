@@ -1,4 +1,5 @@
-// A command in its 32 bytes: the reader and the writer are each other's inverse.
+// A command in its 32 bytes: the reader and the writer are each other's inverse. They have std's names for
+// a format of bytes, as `u64::from_be_bytes`.
 ghost use Rattle.std.specs.Prelude.{◌≡◌, length, Ok};
 ghost use Rattle.wire.specs.Commands.{fields};
 ghost use Rattle.wire.specs.Reading.{Read, Spells, code_of};
@@ -14,22 +15,13 @@ impl Command {
         ensures read { Read bytes.now result }
         ensures exact { (c : Command) → Spells bytes.now c → result ≡ Ok c }
     {
-        if bytes.len() != 32 {
-            return Err(Refusal::Length);
-        }
-        let Some(form) = Record::from_bytes(bytes) else {
-            return Err(Refusal::Malformed);
-        };
-        match Command::of(form) {
-            Some(command) => Ok(command),
-            None => Err(Refusal::Malformed),
-        }
+        Command::try_from(Record::from_bytes(bytes)?)
     }
 
     pub fn to_bytes(self) -> [u8; 32]
         ensures { result ≡ wire (fields self) }
     {
-        self.record().to_bytes()
+        Record::from(self).to_bytes()
     }
 }
 
@@ -37,11 +29,8 @@ impl Command {
 pub fn code_of(bytes: &[u8]) -> u8
     ensures { result ≡ code_of bytes.now }
 {
-    if bytes.len() != 32 {
-        return 0;
-    }
-    match bytes[0] {
-        1..=10 => bytes[0],
+    match bytes {
+        [code @ 1..=10, ..] if bytes.len() == 32 => *code,
         _ => 0,
     }
 }

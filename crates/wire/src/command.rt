@@ -1,12 +1,14 @@
 // The ten commands. A command and its record are each other's: the fields that a code does not use are
 // zero, and a holder is in its bounds.
-ghost use Rattle.std.specs.Prelude.{◌≡◌, MatchOption, ◌≢◌};
-ghost use Rattle.wire.specs.Commands.{fields, Alone};
+ghost use Rattle.std.specs.Prelude.{◌≡◌, MatchResult, ◌≢◌};
+ghost use Rattle.ordered.specs.declared.refusal.Refusal.TheVariants.{Malformed};
+ghost use Rattle.wire.specs.Commands.{fields};
 
 use crate::holder::Holder;
 use crate::record::Record;
+use ordered::Refusal;
 
-#[derive(Clone, Copy)]
+#[derive(Clone, Copy, PartialEq, Eq, Debug)]
 pub enum Command {
     // A name's bits and its route.
     AddName(u64, u64),
@@ -27,77 +29,56 @@ pub enum Command {
     Due(u64),
 }
 
-impl Command {
-    pub fn record(self) -> Record
-        ensures { result ≡ fields self }
-    {
-        match self {
-            Command::AddName(key, note) => noted(1, key, note),
-            Command::RemoveName(key) => noted(2, key, 0),
-            Command::FindName(key) => noted(3, key, 0),
-            Command::NextName(key) => noted(4, key, 0),
-            Command::Lease(first, second, holder) => Record {
-                code: 5,
-                first,
-                second,
-                note: holder.number() as u64,
-            },
-            Command::Release(start, holder) => noted(6, start, holder.number() as u64),
-            Command::Who(station) => noted(7, station, 0),
-            Command::AddEvent(key, note) => noted(8, key, note),
-            Command::RemoveEvent(key) => noted(9, key, 0),
-            Command::Due(moment) => noted(10, moment, 0),
-        }
-    }
+impl From<Command> for Record {
+    ghost from_gives = { λ c x. x ≡ fields c };
 
-    // The command that has exactly these fields, if there is one.
-    pub fn of(form: Record) -> Option<Command>
-        ensures { MatchOption result ((c : Command) → fields c ≢ form) (λ c. fields c ≡ form) }
-    {
-        let Some(command) = likely(form) else {
-            return None;
+    fn from(command: Command) -> Record {
+        let (code, first, second, note) = match command {
+            Command::AddName(key, note) => (1, key, 0, note),
+            Command::RemoveName(key) => (2, key, 0, 0),
+            Command::FindName(key) => (3, key, 0, 0),
+            Command::NextName(key) => (4, key, 0, 0),
+            Command::Lease(first, second, holder) => (5, first, second, holder.number() as u64),
+            Command::Release(start, holder) => (6, start, 0, holder.number() as u64),
+            Command::Who(station) => (7, station, 0, 0),
+            Command::AddEvent(key, note) => (8, key, 0, note),
+            Command::RemoveEvent(key) => (9, key, 0, 0),
+            Command::Due(moment) => (10, moment, 0, 0),
         };
-        let fields = command.record();
-        if fields.second == form.second && fields.note == form.note {
-            Some(command)
-        } else {
-            None
+        Record {
+            code,
+            first,
+            second,
+            note,
         }
     }
 }
 
-fn noted(code: u8, first: u64, note: u64) -> Record
-    ensures { result ≡ record { code = code; first = first; second = 0; note = note } }
-{
-    Record {
-        code,
-        first,
-        second: 0,
-        note,
-    }
-}
+// The command that has exactly these fields, if there is one.
+impl TryFrom<Record> for Command {
+    type Error = Refusal;
 
-// By its code and its holder alone: no other command can have these fields.
-fn likely(form: Record) -> Option<Command>
-    ensures { MatchOption result ((c : Command) → fields c ≢ form) (λ c. Alone form c) }
-{
-    match form.code {
-        1 => Some(Command::AddName(form.first, form.note)),
-        2 => Some(Command::RemoveName(form.first)),
-        3 => Some(Command::FindName(form.first)),
-        4 => Some(Command::NextName(form.first)),
-        5 => match Holder::new(form.note) {
-            Some(holder) => Some(Command::Lease(form.first, form.second, holder)),
-            None => None,
-        },
-        6 => match Holder::new(form.note) {
-            Some(holder) => Some(Command::Release(form.first, holder)),
-            None => None,
-        },
-        7 => Some(Command::Who(form.first)),
-        8 => Some(Command::AddEvent(form.first, form.note)),
-        9 => Some(Command::RemoveEvent(form.first)),
-        10 => Some(Command::Due(form.first)),
-        _ => None,
+    ghost try_from_gives = { λ x r. MatchResult r (λ c. fields c ≡ x) (λ e. (e ≡ Malformed) × ((c : Self) → fields c ≢ x)) };
+
+    fn try_from(form: Record) -> Result<Command, Refusal> {
+        let Record {
+            code,
+            first,
+            second,
+            note,
+        } = form;
+        match (code, second, note) {
+            (1, 0, note) => Ok(Command::AddName(first, note)),
+            (2, 0, 0) => Ok(Command::RemoveName(first)),
+            (3, 0, 0) => Ok(Command::FindName(first)),
+            (4, 0, 0) => Ok(Command::NextName(first)),
+            (5, second, note) => Ok(Command::Lease(first, second, Holder::try_from(note)?)),
+            (6, 0, note) => Ok(Command::Release(first, Holder::try_from(note)?)),
+            (7, 0, 0) => Ok(Command::Who(first)),
+            (8, 0, note) => Ok(Command::AddEvent(first, note)),
+            (9, 0, 0) => Ok(Command::RemoveEvent(first)),
+            (10, 0, 0) => Ok(Command::Due(first)),
+            _ => Err(Refusal::Malformed),
+        }
     }
 }

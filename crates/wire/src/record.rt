@@ -1,24 +1,17 @@
 // The four fields of 32 bytes, whatever they ask for.
-ghost use Rattle.std.specs.Prelude.{◌≡◌, length, MatchOption, ◌≢◌};
-ghost use Rattle.wire.specs.Eights.{eight};
+ghost use Rattle.std.specs.Prelude.{◌≡◌, cond, length, MatchResult, ◌==◌, ◌≢◌};
+ghost use Rattle.ordered.specs.declared.refusal.Refusal.TheVariants.{Length, Malformed};
 ghost use Rattle.wire.specs.Records.{wire, Within};
 
-#[derive(Clone, Copy)]
+use ordered::Refusal;
+
+// The code is a number, since it may be one that no command has.
+#[derive(Clone, Copy, PartialEq, Eq, Debug)]
 pub struct Record {
     pub code: u8,
     pub first: u64,
     pub second: u64,
     pub note: u64,
-}
-
-// The number in eight bytes.
-fn number(bytes: &[u8]) -> u64
-    requires { length bytes.now ≡ 8 }
-    ensures { bytes.now ≡ eight result }
-{
-    u64::from_be_bytes([
-        bytes[0], bytes[1], bytes[2], bytes[3], bytes[4], bytes[5], bytes[6], bytes[7],
-    ])
 }
 
 impl Record {
@@ -33,22 +26,21 @@ impl Record {
         bytes
     }
 
-    // The record in 32 bytes, unless a byte from 1 to 7 is not zero.
-    pub fn from_bytes(bytes: &[u8]) -> Option<Record>
-        requires { length bytes.now ≡ 32 }
-        ensures { MatchOption result ((x : Record) → bytes.now ≢ wire x) (λ x. (bytes.now ≡ wire x) × Within x) }
+    // Refused where the bytes are not 32, or where one from 1 to 7 is not zero.
+    pub fn from_bytes(bytes: &[u8]) -> Result<Record, Refusal>
+        ensures { MatchResult result (λ x. (bytes.now ≡ wire x) × Within x) (λ e. ((x : Record) → bytes.now ≢ wire x) × (e ≡ cond (length bytes.now == 32) Malformed Length)) }
     {
-        let (head, rest) = bytes.split_at(8);
-        let (first, rest) = rest.split_at(8);
-        let (second, note) = rest.split_at(8);
-        if number(head) % 0x100_0000_0000_0000 != 0 {
-            return None;
-        }
-        Some(Record {
-            code: head[0],
-            first: number(first),
-            second: number(second),
-            note: number(note),
+        let ([head, first, second, note], []) = bytes.as_chunks::<8>() else {
+            return Err(Refusal::Length);
+        };
+        let [code, 0, 0, 0, 0, 0, 0, 0] = *head else {
+            return Err(Refusal::Malformed);
+        };
+        Ok(Record {
+            code,
+            first: u64::from_be_bytes(*first),
+            second: u64::from_be_bytes(*second),
+            note: u64::from_be_bytes(*note),
         })
     }
 }

@@ -2,23 +2,33 @@
 use crate::bytes::code_of;
 use crate::command::Command;
 use crate::holder::Holder;
+use crate::record::Record;
 use crate::reply::reply;
 use entry::Entry;
 use ordered::{Answer, Rebuilding, Refusal};
-use std::test::Fail;
 
 #[test]
-fn a_name_and_back(rt: HostRuntime) -> Result<(), Fail> {
-    let bytes = Command::AddName(0x0047_4C41_4445_0000, 12).to_bytes();
+fn a_name_and_back(rt: HostRuntime) {
+    let command = Command::AddName(0x0047_4C41_4445_0000, 12);
+    let bytes = command.to_bytes();
     assert_eq!(rt; bytes[0], 1);
     assert_eq!(rt; bytes[9], 0x47);
     assert_eq!(rt; bytes[31], 12);
-    let Ok(Command::AddName(key, note)) = Command::from_bytes(&bytes) else {
-        return Err(Fail::new("another command"));
+    assert_eq!(rt; Command::from_bytes(&bytes).ok(), Some(command));
+}
+
+#[test]
+fn a_command_and_its_record(rt: HostRuntime) {
+    let form = Record {
+        code: 6,
+        first: 50_331_653,
+        second: 0,
+        note: 7,
     };
-    assert_eq!(rt; key, 0x0047_4C41_4445_0000);
-    assert_eq!(rt; note, 12);
-    Ok(())
+    let seven = Holder::try_from(7).ok();
+    let release = seven.map(|holder| Command::Release(50_331_653, holder));
+    assert_eq!(rt; Command::try_from(form).ok(), release);
+    assert_eq!(rt; release.map(Record::from), Some(form));
 }
 
 #[test]
@@ -27,8 +37,8 @@ fn what_is_malformed(rt: HostRuntime) {
     bytes[31] = 1;
     assert_eq!(rt; code_of(&bytes), 7);
     assert!(rt; Command::from_bytes(&bytes).is_err());
-    assert!(rt; Holder::new(0).is_none());
-    assert!(rt; Holder::new(0x1_0000_0000).is_none());
+    assert!(rt; Holder::try_from(0).is_err());
+    assert!(rt; Holder::try_from(0x1_0000_0000).is_err());
 }
 
 #[test]
