@@ -41,7 +41,7 @@ fn take<B: Ledger>(book: &mut B, before: Option<Record>, bytes: &[u8]) -> Result
     ensures { Tried (B.Ledger.view book.old) before bytes.now result (B.Ledger.view book.new) }
 {
     let command = Command::from_bytes(bytes)?;
-    let form = command.record();
+    let form = Record::from(command);
     if !in_turn(before, form) {
         return Err(Refusal::Sequence);
     }

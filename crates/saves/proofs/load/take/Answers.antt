@@ -14,20 +14,20 @@ returns-in_err-command g c =
 pub returns-then-not-in_turn : goal.returns-then-not-in_turn
 returns-then-not-in_turn g c =
     let out : in_turn c.args.before (fields c.in_ok-command.command) ≡ false =
-    ap (in_turn c.args.before) (sym c.record-form.ensures) ∙ sym c.in_turn.ensures ∙ c.if-not-in_turn.true in
+    ap (in_turn c.args.before) (sym c.from-form.ensures) ∙ sym c.in_turn.ensures ∙ c.if-not-in_turn.true in
     (no_of Sequence 0 0, out_of_turn c.in_ok-command.command c.in_ok-command.ensures.read out refl)
 
 pub returns-in_err-obey : goal.returns-in_err-obey
 returns-in_err-obey g c =
     let into : in_turn c.args.before (fields c.in_ok-command.command) ≡ true =
-    ap (in_turn c.args.before) (sym c.record-form.ensures) ∙ sym c.in_turn.ensures ∙ c.if-not-in_turn.false in
+    ap (in_turn c.args.before) (sym c.from-form.ensures) ∙ sym c.in_turn.ensures ∙ c.if-not-in_turn.false in
     let p = err_from_is_err_and c.from_residual-in_err-obey.result c.from_residual-in_err-obey.ensures.1 in
     rw (p.1, p.2) (c.obey.result, answered c.in_ok-command.command c.in_ok-command.ensures.read into c.obey.ensures c.in_err-obey.was)
 
 pub returns : goal.returns
 returns g c =
     let into : in_turn c.args.before (fields c.in_ok-command.command) ≡ true =
-    ap (in_turn c.args.before) (sym c.record-form.ensures) ∙ sym c.in_turn.ensures ∙ c.if-not-in_turn.false in (
+    ap (in_turn c.args.before) (sym c.from-form.ensures) ∙ sym c.in_turn.ensures ∙ c.if-not-in_turn.false in (
       c.in_ok-command.command,
       c.obey.result,
       record {
@@ -38,5 +38,5 @@ returns g c =
         entry = c.in_ok-obey.field-0;
         accepted = c.in_ok-obey.was;
       },
-      c.record-form.ensures,
+      c.from-form.ensures,
     )
