@@ -55,7 +55,7 @@ impl<N: OrderedIndex<Name>, L: OrderedIndex<Station>, E: OrderedIndex<Moment>> L
         if self.is_shut() {
             return Answer::refused(Refusal::Shut, 0, 0);
         }
-        if let Some(refusal) = early(command) {
+        if let Err(refusal) = early(command) {
             return Answer::refused(refusal, 0, 0);
         }
         match command {

@@ -1,6 +1,7 @@
 // What is wrong with a command's keys, before any frame: one is too large for its kind, or a lease's two
 // keys are out of order or on two pistes.
 ghost use Rattle.std.specs.Prelude.{◌≡◌, ◌^◌, nat_le};
+ghost use Rattle.std.specs.Result.{result_err};
 ghost use Rattle.leases.specs.Checks.{early as early_of, unfit as unfit_of};
 
 use key::Key;
@@ -8,9 +9,8 @@ use key::kinds::{Moment, Name, Station};
 use ordered::Refusal;
 use wire::Command;
 
-// The refusal is what is looked for, so it is an option's value and no error of a result.
-pub fn early(command: Command) -> Option<Refusal>
-    ensures { result ≡ early_of command }
+pub fn early(command: Command) -> Result<(), Refusal>
+    ensures { result_err result ≡ early_of command }
 {
     let large = match command {
         Command::AddName(name, _)
@@ -23,7 +23,11 @@ pub fn early(command: Command) -> Option<Refusal>
             is_too_large::<Moment>(moment)
         }
     };
-    large.then_some(Refusal::TooLarge)
+    if large {
+        Err(Refusal::TooLarge)
+    } else {
+        Ok(())
+    }
 }
 
 // Whether these are no key's bits.
@@ -35,17 +39,17 @@ fn is_too_large<K: Key>(bits: u64) -> bool
 
 // The two ends of a lease: their size, then their order, then their piste.
 #[tactic(auto, unfolding(crate::specs::Checks::unfit))]
-fn unfit(first: u64, second: u64) -> Option<Refusal>
-    ensures { result ≡ unfit_of first second }
+fn unfit(first: u64, second: u64) -> Result<(), Refusal>
+    ensures { result_err result ≡ unfit_of first second }
 {
     let (Some(start), Some(end)) = (Station::from_bits(first), Station::from_bits(second)) else {
-        return Some(Refusal::TooLarge);
+        return Err(Refusal::TooLarge);
     };
     if first > second {
-        Some(Refusal::Order)
+        Err(Refusal::Order)
     } else if start.piste() != end.piste() {
-        Some(Refusal::Piste)
+        Err(Refusal::Piste)
     } else {
-        None
+        Ok(())
     }
 }

@@ -14,7 +14,7 @@ fn a_stretch(rt: HostRuntime) -> Result<(), Fail> {
     assert_eq!(rt; lease.note, 38_654_705_671);
     assert_eq!(rt; finish(lease), 50_331_657);
     assert_eq!(rt; holder(lease), 7);
-    let Some(refusal) = early(Command::Lease(50_331_653, 67_108_864, seven)) else {
+    let Err(refusal) = early(Command::Lease(50_331_653, 67_108_864, seven)) else {
         return Err(Fail::new("accepted"));
     };
     assert_eq!(rt; refusal.number(), 11);

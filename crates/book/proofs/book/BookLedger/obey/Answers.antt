@@ -15,13 +15,13 @@ returns-then-is_shut g c =
     record { names = g.met.N.OrderedIndex.lawful me.names; leases = g.met.L.OrderedIndex.lawful me.leases.index; events = g.met.E.OrderedIndex.lawful me.events; bounded = me.bounded } in
     rw c.refused.ensures (refused_shut b c.args.command s (sym c.is_shut.ensures ∙ c.if-is_shut.true))
 
-pub returns-in-Some : goal.returns-in-Some
-returns-in-Some g c =
+pub returns-in-Err : goal.returns-in-Err
+returns-in-Err g c =
     let me = c.args.self.now in
     let b = view_of (g.N.OrderedIndex.view me.names) (g.L.OrderedIndex.view me.leases.index) (g.E.OrderedIndex.view me.events) in
     let s : Standing b =
     record { names = g.met.N.OrderedIndex.lawful me.names; leases = g.met.L.OrderedIndex.lawful me.leases.index; events = g.met.E.OrderedIndex.lawful me.events; bounded = me.bounded } in
-    rw c.refused-in-Some.ensures (refused_early b c.args.command c.in-Some.refusal s (sym c.is_shut.ensures ∙ c.if-is_shut.false) (sym c.in-Some.ensures))
+    rw c.refused-in-Err.ensures (refused_early b c.args.command c.in-Err.refusal s (sym c.is_shut.ensures ∙ c.if-is_shut.false) (sym c.in-Err.ensures))
 
 pub returns-in-AddName : goal.returns-in-AddName
 returns-in-AddName g c =
