@@ -6,7 +6,6 @@ use Rattle.std.proofs.Props.{props}
 use Rattle.dictionary.specs.Pairs.{Pairs}
 use Rattle.entry.specs.declared.Entry.{Entry}
 use Rattle.entry.specs.Lists.{Rising}
-use Rattle.buckets.specs.Tables.{Seg, Row}
 use Rattle.links.specs.Orders.{Rising as RisingReps}
 use Rattle.trees.specs.contracts.Node as node_row
 use Rattle.trees.specs.declared.Node.{Node}
@@ -23,14 +22,6 @@ Rising-prop (e ∷ es) = ×_prop (Prim.hlevel props) (Rising-prop es)
 pub RisingReps-prop : (rep : ℕ → ℕ) (xs : List ℕ) → IsProp (RisingReps rep xs)
 RisingReps-prop rep [] = Unit-prop
 RisingReps-prop rep (x ∷ xs) = ×_prop (Prim.hlevel props) (RisingReps-prop rep xs)
-
-pub Seg-prop : (next prev : ℕ → ℕ) (x : ℕ) (ys : List ℕ) (z : ℕ) → IsProp (Seg next prev x ys z)
-Seg-prop next prev x [] z = Prim.hlevel props
-Seg-prop next prev x (y ∷ ys) z = Prim.hlevel (Seg-prop next prev y ys z, props)
-
-pub Row-prop : (next : ℕ → ℕ) (x : ℕ) (ys : List ℕ) → IsProp (Row next x ys)
-Row-prop next x [] = Unit-prop
-Row-prop next x (y ∷ ys) = Prim.hlevel (Row-prop next (next y) ys, props)
 
 pub Balanced-prop : (t : Tree) → IsProp (Balanced t)
 Balanced-prop leaf = Unit-prop
@@ -52,7 +43,7 @@ Spread-prop top [] = Unit-prop
 Spread-prop top (b ∷ s) = Prim.hlevel (Rise-prop, Spread-prop top s, props)
 
 pub Whole-prop : (w : ℕ) (f : Pairs) (room tally : ℕ) (i : Inside) → IsProp (Whole w f room tally i)
-Whole-prop w f room tally i = Prim.hlevel (Rising-prop, RisingReps-prop, Seg-prop, Row-prop, Balanced-prop, Lies-prop, Spread-prop, props)
+Whole-prop w f room tally i = Prim.hlevel (Rising-prop, RisingReps-prop, Balanced-prop, Lies-prop, Spread-prop, props)
 
 unless_prop : {X : Type 0} (b : Bool) → IsProp X → IsProp (Unless b X)
 unless_prop true p = Unit-prop
