@@ -55,4 +55,4 @@ sound_kept w f f' room room' tally n i e r so = keep i.shut so
   where
     keep : (b : Bool) → Unless b (Whole w f room tally i) → Unless b (Whole w f' room' n i)
     keep true s = tt
-    keep false s = record { trie = subst (λ h. TrieSound w h i.table) (sym e) s.trie; forest = s.forest; buckets = s.buckets; notes = s.notes; counted = s.counted; small = s.small; fits = subst (λ x. needed w i.limit ≤ x) (sym r) s.fits }
+    keep false s = record { trie = subst (λ h. TrieSound w h i.grove.table) (sym e) s.trie; buckets = s.buckets; notes = s.notes; counted = s.counted; small = s.small; fits = subst (λ x. needed w i.limit ≤ x) (sym r) s.fits }

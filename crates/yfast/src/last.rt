@@ -22,8 +22,9 @@ impl<K: Key, D: Dictionary> YFast<K, D> {
         if let Some(refusal) = self.bars(key, key) {
             return refused(refusal, 0, 0);
         }
-        let at = locate::<K, D>(&mut self.dictionary, &self.inside.table, key);
-        let found = last_from(&self.inside, at.number, key);
+        let grove = &self.inside.grove;
+        let at = locate::<K, D>(&mut self.dictionary, &grove.table, key);
+        let found = last_from(grove, at.number, key);
         reply(found.entry, Refusal::Nothing, at.frames, found.visits)
     }
 }

@@ -23,9 +23,10 @@ impl<K: Key, D: Dictionary> YFast<K, D> {
         if let Some(refusal) = self.bars(key, key) {
             return refused(refusal, 0, 0);
         }
-        let at = locate::<K, D>(&mut self.dictionary, &self.inside.table, key);
-        let root = self.inside.table.root(at.number);
-        let found = trees::find(&self.inside.pool.nodes, root, key);
+        let grove = &self.inside.grove;
+        let at = locate::<K, D>(&mut self.dictionary, &grove.table, key);
+        let root = grove.table.root(at.number);
+        let found = trees::find(&grove.pool.nodes, root, key);
         let Some(entry) = found.entry else {
             return refused(Refusal::Absent, at.frames, found.visits);
         };

@@ -54,14 +54,14 @@ root-root-requires g c =
     let i = c.args.self.now.inside in
     let k = c.args.key in
     let o = open_whole _ _ _ _ i k k c.requires c.in_default.ensures in
-    small i.table c.locate-at.result.number c.locate-at.ensures.held
+    small i.grove.table c.locate-at.result.number c.locate-at.ensures.held
 
 pub find-found-requires : goal.find-found-requires
 find-found-requires g c =
     let i = c.args.self.now.inside in
     let k = c.args.key in
     let o = open_whole _ _ _ _ i k k c.requires c.in_default.ensures in
-    subst (Standing i.pool.nodes) (sym c.root-root.ensures) (all_among (λ n. Standing i.pool.nodes (root_of i.table n)) (order_of i.table) c.locate-at.result.number o.1.forest.trees c.locate-at.ensures.held)
+    subst (Standing i.grove.pool.nodes) (sym c.root-root.ensures) (all_among (λ n. Standing i.grove.pool.nodes (root_of i.grove.table n)) (order_of i.grove.table) c.locate-at.result.number o.1.forest.trees c.locate-at.ensures.held)
 
 pub enter-change-requires : goal.enter-change-requires
 enter-change-requires g c =
@@ -71,13 +71,13 @@ enter-change-requires g c =
     let e = c.locate-at.new.d in
     let o = open_whole _ _ _ _ i k k c.requires c.in_default.ensures in
     let wh = o.1 in
-    let none : is_some (foremost (at k (entries_at i.pool.nodes c.root-root.result))) ≡ false = ap is_some (sym c.find-found.ensures.entry) ∙ (sym c.is_some.ensures ∙ c.if-is_some.false) in
+    let none : is_some (foremost (at k (entries_at i.grove.pool.nodes c.root-root.result))) ≡ false = ap is_some (sym c.find-found.ensures.entry) ∙ (sym c.is_some.ensures ∙ c.if-is_some.false) in
     record {
       whole = record { trie = c.locate-at.ensures.sound; forest = wh.forest; buckets = wh.buckets; notes = wh.notes; counted = wh.counted; small = wh.small; fits = subst (λ x. needed w i.limit ≤ x) (sym c.locate-at.ensures.room) wh.fits };
       fits = one_fits i.shut w k c.in_default.ensures;
       place = c.locate-at.ensures.number;
       held = c.locate-at.ensures.held;
-      new = subst (λ r. at k (entries_at i.pool.nodes r) ≡ []) c.root-root.ensures (none_found (at k (entries_at i.pool.nodes c.root-root.result)) none);
+      new = subst (λ r. at k (entries_at i.grove.pool.nodes r) ≡ []) c.root-root.ensures (none_found (at k (entries_at i.grove.pool.nodes c.root-root.result)) none);
       free = c.if-self.false;
     }
 
@@ -100,18 +100,18 @@ returns-then-is_some g c =
     let tally = g.D.Dictionary.frames d in
     let new : Entry = record { key = k; note = c.args.note } in
     let o = open_whole w f room tally i k k c.requires c.in_default.ensures in
-    let m = holder (rep_of i.table) (order_of i.table) k in
-    let root : c.root-root.result ≡ root_of i.table m = c.root-root.ensures ∙ ap (root_of i.table) c.locate-at.ensures.number in
-    let xs = at k (items_of i.table i.pool m) in
-    let found : c.is_some.result ≡ is_some (foremost xs) = c.is_some.ensures ∙ ap is_some (c.find-found.ensures.entry ∙ ap (λ r. foremost (at k (entries_at i.pool.nodes r))) root) in
-    let seen_is : c.find-found.result.visits ≡ seen k (tree_of i.table i.pool m) = c.find-found.ensures.visits ∙ ap (λ r. seen k (tree_at i.pool.nodes r)) root in
+    let m = holder (rep_of i.grove.table) (order_of i.grove.table) k in
+    let root : c.root-root.result ≡ root_of i.grove.table m = c.root-root.ensures ∙ ap (root_of i.grove.table) c.locate-at.ensures.number in
+    let xs = at k (items_of i.grove.table i.grove.pool m) in
+    let found : c.is_some.result ≡ is_some (foremost xs) = c.is_some.ensures ∙ ap is_some (c.find-found.ensures.entry ∙ ap (λ r. foremost (at k (entries_at i.grove.pool.nodes r))) root) in
+    let seen_is : c.find-found.result.visits ≡ seen k (tree_of i.grove.table i.grove.pool m) = c.find-found.ensures.visits ∙ ap (λ r. seen k (tree_at i.grove.pool.nodes r)) root in
     let fr = c.locate-at.ensures.frames in
     let big = g.met.K.Key.wide.0 in
     let fits = one_fits i.shut w k c.in_default.ensures in
     let n = g.D.Dictionary.frames e in
-    let t = refused_step w f room tally i big o.1 new fits Held n (some_held i.limit (total (row_of i.table i.pool)) xs (sym found ∙ c.if-is_some.true)) (g.met.D.Dictionary.counts e) (c.locate-at.ensures.tally ∙ ap (raised tally) fr) in
-    let q : c.refused-then-is_some.result ≡ no_of Held (searching w (reps_of i.table) k) (seen k (tree_of i.table i.pool m)) =
-    c.refused-then-is_some.ensures ∙ (ap (λ x. no_of Held x c.find-found.result.visits) fr ∙ ap (λ x. no_of Held (searching w (reps_of i.table) k) x) seen_is) in
+    let t = refused_step w f room tally i big o.1 new fits Held n (some_held i.limit (total (row_of i.grove.table i.grove.pool)) xs (sym found ∙ c.if-is_some.true)) (g.met.D.Dictionary.counts e) (c.locate-at.ensures.tally ∙ ap (raised tally) fr) in
+    let q : c.refused-then-is_some.result ≡ no_of Held (searching w (reps_of i.grove.table) k) (seen k (tree_of i.grove.table i.grove.pool m)) =
+    c.refused-then-is_some.ensures ∙ (ap (λ x. no_of Held x c.find-found.result.visits) fr ∙ ap (λ x. no_of Held (searching w (reps_of i.grove.table) k) x) seen_is) in
     record {
       sound = sound_kept w f (g.D.Dictionary.pairs e) room (g.D.Dictionary.room e) tally n i c.locate-at.ensures.pairs c.locate-at.ensures.room c.requires;
       does = open_does w f (g.D.Dictionary.pairs e) tally n i (Add k c.args.note) [] _ (answer_with c.refused-then-is_some.result) o.0 c.locate-at.ensures.pairs (ap answer_with q) t;
@@ -133,18 +133,18 @@ returns-then-self g c =
     let tally = g.D.Dictionary.frames d in
     let new : Entry = record { key = k; note = c.args.note } in
     let o = open_whole w f room tally i k k c.requires c.in_default.ensures in
-    let m = holder (rep_of i.table) (order_of i.table) k in
-    let root : c.root-root.result ≡ root_of i.table m = c.root-root.ensures ∙ ap (root_of i.table) c.locate-at.ensures.number in
-    let xs = at k (items_of i.table i.pool m) in
-    let found : c.is_some.result ≡ is_some (foremost xs) = c.is_some.ensures ∙ ap is_some (c.find-found.ensures.entry ∙ ap (λ r. foremost (at k (entries_at i.pool.nodes r))) root) in
-    let seen_is : c.find-found.result.visits ≡ seen k (tree_of i.table i.pool m) = c.find-found.ensures.visits ∙ ap (λ r. seen k (tree_at i.pool.nodes r)) root in
+    let m = holder (rep_of i.grove.table) (order_of i.grove.table) k in
+    let root : c.root-root.result ≡ root_of i.grove.table m = c.root-root.ensures ∙ ap (root_of i.grove.table) c.locate-at.ensures.number in
+    let xs = at k (items_of i.grove.table i.grove.pool m) in
+    let found : c.is_some.result ≡ is_some (foremost xs) = c.is_some.ensures ∙ ap is_some (c.find-found.ensures.entry ∙ ap (λ r. foremost (at k (entries_at i.grove.pool.nodes r))) root) in
+    let seen_is : c.find-found.result.visits ≡ seen k (tree_of i.grove.table i.grove.pool m) = c.find-found.ensures.visits ∙ ap (λ r. seen k (tree_at i.grove.pool.nodes r)) root in
     let fr = c.locate-at.ensures.frames in
     let big = g.met.K.Key.wide.0 in
     let fits = one_fits i.shut w k c.in_default.ensures in
     let n = g.D.Dictionary.frames e in
-    let t = refused_step w f room tally i big o.1 new fits Full n (none_full i.limit (total (row_of i.table i.pool)) xs (none_found xs (sym found ∙ c.if-is_some.false)) (omega (arith, o.1.counted, c.if-self.true))) (g.met.D.Dictionary.counts e) (c.locate-at.ensures.tally ∙ ap (raised tally) fr) in
-    let q : c.refused-then-self.result ≡ no_of Full (searching w (reps_of i.table) k) (seen k (tree_of i.table i.pool m)) =
-    c.refused-then-self.ensures ∙ (ap (λ x. no_of Full x c.find-found.result.visits) fr ∙ ap (λ x. no_of Full (searching w (reps_of i.table) k) x) seen_is) in
+    let t = refused_step w f room tally i big o.1 new fits Full n (none_full i.limit (total (row_of i.grove.table i.grove.pool)) xs (none_found xs (sym found ∙ c.if-is_some.false)) (omega (arith, o.1.counted, c.if-self.true))) (g.met.D.Dictionary.counts e) (c.locate-at.ensures.tally ∙ ap (raised tally) fr) in
+    let q : c.refused-then-self.result ≡ no_of Full (searching w (reps_of i.grove.table) k) (seen k (tree_of i.grove.table i.grove.pool m)) =
+    c.refused-then-self.ensures ∙ (ap (λ x. no_of Full x c.find-found.result.visits) fr ∙ ap (λ x. no_of Full (searching w (reps_of i.grove.table) k) x) seen_is) in
     record {
       sound = sound_kept w f (g.D.Dictionary.pairs e) room (g.D.Dictionary.room e) tally n i c.locate-at.ensures.pairs c.locate-at.ensures.room c.requires;
       does = open_does w f (g.D.Dictionary.pairs e) tally n i (Add k c.args.note) [] _ (answer_with c.refused-then-self.result) o.0 c.locate-at.ensures.pairs (ap answer_with q) t;
@@ -166,11 +166,11 @@ returns g c =
     let tally = g.D.Dictionary.frames d in
     let new : Entry = record { key = k; note = c.args.note } in
     let o = open_whole w f room tally i k k c.requires c.in_default.ensures in
-    let m = holder (rep_of i.table) (order_of i.table) k in
-    let root : c.root-root.result ≡ root_of i.table m = c.root-root.ensures ∙ ap (root_of i.table) c.locate-at.ensures.number in
-    let xs = at k (items_of i.table i.pool m) in
-    let found : c.is_some.result ≡ is_some (foremost xs) = c.is_some.ensures ∙ ap is_some (c.find-found.ensures.entry ∙ ap (λ r. foremost (at k (entries_at i.pool.nodes r))) root) in
-    let seen_is : c.find-found.result.visits ≡ seen k (tree_of i.table i.pool m) = c.find-found.ensures.visits ∙ ap (λ r. seen k (tree_at i.pool.nodes r)) root in
+    let m = holder (rep_of i.grove.table) (order_of i.grove.table) k in
+    let root : c.root-root.result ≡ root_of i.grove.table m = c.root-root.ensures ∙ ap (root_of i.grove.table) c.locate-at.ensures.number in
+    let xs = at k (items_of i.grove.table i.grove.pool m) in
+    let found : c.is_some.result ≡ is_some (foremost xs) = c.is_some.ensures ∙ ap is_some (c.find-found.ensures.entry ∙ ap (λ r. foremost (at k (entries_at i.grove.pool.nodes r))) root) in
+    let seen_is : c.find-found.result.visits ≡ seen k (tree_of i.grove.table i.grove.pool m) = c.find-found.ensures.visits ∙ ap (λ r. seen k (tree_at i.grove.pool.nodes r)) root in
     let fr = c.locate-at.ensures.frames in
     let big = g.met.K.Key.wide.0 in
     let fits = one_fits i.shut w k c.in_default.ensures in
@@ -188,7 +188,7 @@ returns g c =
     let accepted : ℕ → ℕ → Answered = λ x y. record { answer = record { outcome = Ok new; number = 0; frames = x + r.frames; visits = y; rebuilding = r.rebuilding }; places = [] } in
     let made : Step w i.limit (state_of f tally i) (Add k c.args.note) [] (accepted c.locate-at.result.frames c.find-found.result.visits) (state_of p n j) =
     subst (λ x. Step w i.limit (state_of f tally i) (Add k c.args.note) [] (accepted x c.find-found.result.visits) (state_of p n j)) (sym fr)
-    (subst (λ y. Step w i.limit (state_of f tally i) (Add k c.args.note) [] (accepted (searching w (reps_of i.table) k) y) (state_of p n j)) (sym seen_is) t) in
+    (subst (λ y. Step w i.limit (state_of f tally i) (Add k c.args.note) [] (accepted (searching w (reps_of i.grove.table) k) y) (state_of p n j)) (sym seen_is) t) in
     record {
       sound = subst (λ b. Unless b (Whole w p (g.D.Dictionary.room z) n j)) (sym (en.rest.2 ∙ o.0)) whole;
       does = subst (λ b. Does b w i.limit (state_of f tally i) (Add k c.args.note) [] (accepted c.locate-at.result.frames c.find-found.result.visits) (state_of p n j)) (sym o.0) made;

@@ -47,14 +47,14 @@ root-root-requires g c =
     let i = c.args.self.now.inside in
     let k = c.args.key in
     let o = open_whole _ _ _ _ i k k c.requires c.in_default.ensures in
-    small i.table c.locate-at.result.number c.locate-at.ensures.held
+    small i.grove.table c.locate-at.result.number c.locate-at.ensures.held
 
 pub find-found-requires : goal.find-found-requires
 find-found-requires g c =
     let i = c.args.self.now.inside in
     let k = c.args.key in
     let o = open_whole _ _ _ _ i k k c.requires c.in_default.ensures in
-    subst (Standing i.pool.nodes) (sym c.root-root.ensures) (all_among (λ n. Standing i.pool.nodes (root_of i.table n)) (order_of i.table) c.locate-at.result.number o.1.forest.trees c.locate-at.ensures.held)
+    subst (Standing i.grove.pool.nodes) (sym c.root-root.ensures) (all_among (λ n. Standing i.grove.pool.nodes (root_of i.grove.table n)) (order_of i.grove.table) c.locate-at.result.number o.1.forest.trees c.locate-at.ensures.held)
 
 pub returns : goal.returns
 unfolding answer_with
@@ -69,16 +69,16 @@ returns g c =
     let tally = g.D.Dictionary.frames d in
     let n = g.D.Dictionary.frames e in
     let o = open_whole w f room tally i k k c.requires c.in_default.ensures in
-    let m = holder (rep_of i.table) (order_of i.table) k in
-    let root : c.root-root.result ≡ root_of i.table m = c.root-root.ensures ∙ ap (root_of i.table) c.locate-at.ensures.number in
-    let entry = c.find-found.ensures.entry ∙ ap (λ r. foremost (at k (entries_at i.pool.nodes r))) root in
-    let seen_is = c.find-found.ensures.visits ∙ ap (λ r. seen k (tree_at i.pool.nodes r)) root in
+    let m = holder (rep_of i.grove.table) (order_of i.grove.table) k in
+    let root : c.root-root.result ≡ root_of i.grove.table m = c.root-root.ensures ∙ ap (root_of i.grove.table) c.locate-at.ensures.number in
+    let entry = c.find-found.ensures.entry ∙ ap (λ r. foremost (at k (entries_at i.grove.pool.nodes r))) root in
+    let seen_is = c.find-found.ensures.visits ∙ ap (λ r. seen k (tree_at i.grove.pool.nodes r)) root in
     let fr = c.locate-at.ensures.frames in
-    let q : c.reply.result ≡ reply_of (foremost (at k (items_of i.table i.pool m))) Absent (searching w (reps_of i.table) k) (seen k (tree_of i.table i.pool m)) =
+    let q : c.reply.result ≡ reply_of (foremost (at k (items_of i.grove.table i.grove.pool m))) Absent (searching w (reps_of i.grove.table) k) (seen k (tree_of i.grove.table i.grove.pool m)) =
     c.reply.ensures
     ∙ (ap (λ x. reply_of x Absent c.locate-at.result.frames c.find-found.result.visits) entry
-    ∙ (ap (λ x. reply_of (foremost (at k (items_of i.table i.pool m))) Absent x c.find-found.result.visits) fr
-    ∙ ap (λ x. reply_of (foremost (at k (items_of i.table i.pool m))) Absent (searching w (reps_of i.table) k) x) seen_is)) in
+    ∙ (ap (λ x. reply_of (foremost (at k (items_of i.grove.table i.grove.pool m))) Absent x c.find-found.result.visits) fr
+    ∙ ap (λ x. reply_of (foremost (at k (items_of i.grove.table i.grove.pool m))) Absent (searching w (reps_of i.grove.table) k) x) seen_is)) in
     let t = find_step w f room tally i g.met.K.Key.wide.0 o.1 k [] n (one_fits i.shut w k c.in_default.ensures) (g.met.D.Dictionary.counts e) (c.locate-at.ensures.tally ∙ ap (raised tally) fr) in
     record {
       sound = sound_kept w f (g.D.Dictionary.pairs e) room (g.D.Dictionary.room e) tally n i c.locate-at.ensures.pairs c.locate-at.ensures.room c.requires;

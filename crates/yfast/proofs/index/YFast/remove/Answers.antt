@@ -51,14 +51,14 @@ root-root-requires g c =
     let i = c.args.self.now.inside in
     let k = c.args.key in
     let o = open_whole _ _ _ _ i k k c.requires c.in_default.ensures in
-    small i.table c.locate-at.result.number c.locate-at.ensures.held
+    small i.grove.table c.locate-at.result.number c.locate-at.ensures.held
 
 pub find-found-requires : goal.find-found-requires
 find-found-requires g c =
     let i = c.args.self.now.inside in
     let k = c.args.key in
     let o = open_whole _ _ _ _ i k k c.requires c.in_default.ensures in
-    subst (Standing i.pool.nodes) (sym c.root-root.ensures) (all_among (λ n. Standing i.pool.nodes (root_of i.table n)) (order_of i.table) c.locate-at.result.number o.1.forest.trees c.locate-at.ensures.held)
+    subst (Standing i.grove.pool.nodes) (sym c.root-root.ensures) (all_among (λ n. Standing i.grove.pool.nodes (root_of i.grove.table n)) (order_of i.grove.table) c.locate-at.result.number o.1.forest.trees c.locate-at.ensures.held)
 
 pub leave-change-requires : goal.leave-change-requires
 leave-change-requires g c =
@@ -71,11 +71,11 @@ leave-change-requires g c =
     let room = g.D.Dictionary.room d in
     let tally = g.D.Dictionary.frames d in
     let o = open_whole w f room tally i k k c.requires c.in_default.ensures in
-    let m = holder (rep_of i.table) (order_of i.table) k in
-    let root : c.root-root.result ≡ root_of i.table m = c.root-root.ensures ∙ ap (root_of i.table) c.locate-at.ensures.number in
-    let xs = at k (items_of i.table i.pool m) in
-    let found : c.find-found.result.entry ≡ foremost xs = c.find-found.ensures.entry ∙ ap (λ r. foremost (at k (entries_at i.pool.nodes r))) root in
-    let seen_is : c.find-found.result.visits ≡ seen k (tree_of i.table i.pool m) = c.find-found.ensures.visits ∙ ap (λ r. seen k (tree_at i.pool.nodes r)) root in
+    let m = holder (rep_of i.grove.table) (order_of i.grove.table) k in
+    let root : c.root-root.result ≡ root_of i.grove.table m = c.root-root.ensures ∙ ap (root_of i.grove.table) c.locate-at.ensures.number in
+    let xs = at k (items_of i.grove.table i.grove.pool m) in
+    let found : c.find-found.result.entry ≡ foremost xs = c.find-found.ensures.entry ∙ ap (λ r. foremost (at k (entries_at i.grove.pool.nodes r))) root in
+    let seen_is : c.find-found.result.visits ≡ seen k (tree_of i.grove.table i.grove.pool m) = c.find-found.ensures.visits ∙ ap (λ r. seen k (tree_at i.grove.pool.nodes r)) root in
     let fr = c.locate-at.ensures.frames in
     let big = g.met.K.Key.wide.0 in
     let fits = one_fits i.shut w k c.in_default.ensures in
@@ -86,7 +86,7 @@ leave-change-requires g c =
       fits = fits;
       place = c.locate-at.ensures.number;
       held = c.locate-at.ensures.held;
-      some = subst (λ y. filled (at k (items_of i.table i.pool y)) ≡ true) (sym c.locate-at.ensures.number) (ap filled first.1);
+      some = subst (λ y. filled (at k (items_of i.grove.table i.grove.pool y)) ≡ true) (sym c.locate-at.ensures.number) (ap filled first.1);
     }
 
 pub overflow_add-result : goal.overflow_add-result
@@ -100,11 +100,11 @@ overflow_add-result g c =
     let room = g.D.Dictionary.room d in
     let tally = g.D.Dictionary.frames d in
     let o = open_whole w f room tally i k k c.requires c.in_default.ensures in
-    let m = holder (rep_of i.table) (order_of i.table) k in
-    let root : c.root-root.result ≡ root_of i.table m = c.root-root.ensures ∙ ap (root_of i.table) c.locate-at.ensures.number in
-    let xs = at k (items_of i.table i.pool m) in
-    let found : c.find-found.result.entry ≡ foremost xs = c.find-found.ensures.entry ∙ ap (λ r. foremost (at k (entries_at i.pool.nodes r))) root in
-    let seen_is : c.find-found.result.visits ≡ seen k (tree_of i.table i.pool m) = c.find-found.ensures.visits ∙ ap (λ r. seen k (tree_at i.pool.nodes r)) root in
+    let m = holder (rep_of i.grove.table) (order_of i.grove.table) k in
+    let root : c.root-root.result ≡ root_of i.grove.table m = c.root-root.ensures ∙ ap (root_of i.grove.table) c.locate-at.ensures.number in
+    let xs = at k (items_of i.grove.table i.grove.pool m) in
+    let found : c.find-found.result.entry ≡ foremost xs = c.find-found.ensures.entry ∙ ap (λ r. foremost (at k (entries_at i.grove.pool.nodes r))) root in
+    let seen_is : c.find-found.result.visits ≡ seen k (tree_of i.grove.table i.grove.pool m) = c.find-found.ensures.visits ∙ ap (λ r. seen k (tree_at i.grove.pool.nodes r)) root in
     let fr = c.locate-at.ensures.frames in
     let big = g.met.K.Key.wide.0 in
     let fits = one_fits i.shut w k c.in_default.ensures in
@@ -125,18 +125,18 @@ returns-in_default-entry g c =
     let room = g.D.Dictionary.room d in
     let tally = g.D.Dictionary.frames d in
     let o = open_whole w f room tally i k k c.requires c.in_default.ensures in
-    let m = holder (rep_of i.table) (order_of i.table) k in
-    let root : c.root-root.result ≡ root_of i.table m = c.root-root.ensures ∙ ap (root_of i.table) c.locate-at.ensures.number in
-    let xs = at k (items_of i.table i.pool m) in
-    let found : c.find-found.result.entry ≡ foremost xs = c.find-found.ensures.entry ∙ ap (λ r. foremost (at k (entries_at i.pool.nodes r))) root in
-    let seen_is : c.find-found.result.visits ≡ seen k (tree_of i.table i.pool m) = c.find-found.ensures.visits ∙ ap (λ r. seen k (tree_at i.pool.nodes r)) root in
+    let m = holder (rep_of i.grove.table) (order_of i.grove.table) k in
+    let root : c.root-root.result ≡ root_of i.grove.table m = c.root-root.ensures ∙ ap (root_of i.grove.table) c.locate-at.ensures.number in
+    let xs = at k (items_of i.grove.table i.grove.pool m) in
+    let found : c.find-found.result.entry ≡ foremost xs = c.find-found.ensures.entry ∙ ap (λ r. foremost (at k (entries_at i.grove.pool.nodes r))) root in
+    let seen_is : c.find-found.result.visits ≡ seen k (tree_of i.grove.table i.grove.pool m) = c.find-found.ensures.visits ∙ ap (λ r. seen k (tree_at i.grove.pool.nodes r)) root in
     let fr = c.locate-at.ensures.frames in
     let big = g.met.K.Key.wide.0 in
     let fits = one_fits i.shut w k c.in_default.ensures in
     let n = g.D.Dictionary.frames e in
     let t = absent_step w f room tally i big o.1 k fits n (not_found xs (sym found ∙ c.in_default-entry.is)) (g.met.D.Dictionary.counts e) (c.locate-at.ensures.tally ∙ ap (raised tally) fr) in
-    let q : c.refused-in_default-entry.result ≡ no_of Absent (searching w (reps_of i.table) k) (seen k (tree_of i.table i.pool m)) =
-    c.refused-in_default-entry.ensures ∙ (ap (λ x. no_of Absent x c.find-found.result.visits) fr ∙ ap (λ x. no_of Absent (searching w (reps_of i.table) k) x) seen_is) in
+    let q : c.refused-in_default-entry.result ≡ no_of Absent (searching w (reps_of i.grove.table) k) (seen k (tree_of i.grove.table i.grove.pool m)) =
+    c.refused-in_default-entry.ensures ∙ (ap (λ x. no_of Absent x c.find-found.result.visits) fr ∙ ap (λ x. no_of Absent (searching w (reps_of i.grove.table) k) x) seen_is) in
     record {
       sound = sound_kept w f (g.D.Dictionary.pairs e) room (g.D.Dictionary.room e) tally n i c.locate-at.ensures.pairs c.locate-at.ensures.room c.requires;
       does = open_does w f (g.D.Dictionary.pairs e) tally n i (Remove k) [] _ (answer_with c.refused-in_default-entry.result) o.0 c.locate-at.ensures.pairs (ap answer_with q) t;
@@ -156,11 +156,11 @@ returns g c =
     let room = g.D.Dictionary.room d in
     let tally = g.D.Dictionary.frames d in
     let o = open_whole w f room tally i k k c.requires c.in_default.ensures in
-    let m = holder (rep_of i.table) (order_of i.table) k in
-    let root : c.root-root.result ≡ root_of i.table m = c.root-root.ensures ∙ ap (root_of i.table) c.locate-at.ensures.number in
-    let xs = at k (items_of i.table i.pool m) in
-    let found : c.find-found.result.entry ≡ foremost xs = c.find-found.ensures.entry ∙ ap (λ r. foremost (at k (entries_at i.pool.nodes r))) root in
-    let seen_is : c.find-found.result.visits ≡ seen k (tree_of i.table i.pool m) = c.find-found.ensures.visits ∙ ap (λ r. seen k (tree_at i.pool.nodes r)) root in
+    let m = holder (rep_of i.grove.table) (order_of i.grove.table) k in
+    let root : c.root-root.result ≡ root_of i.grove.table m = c.root-root.ensures ∙ ap (root_of i.grove.table) c.locate-at.ensures.number in
+    let xs = at k (items_of i.grove.table i.grove.pool m) in
+    let found : c.find-found.result.entry ≡ foremost xs = c.find-found.ensures.entry ∙ ap (λ r. foremost (at k (entries_at i.grove.pool.nodes r))) root in
+    let seen_is : c.find-found.result.visits ≡ seen k (tree_of i.grove.table i.grove.pool m) = c.find-found.ensures.visits ∙ ap (λ r. seen k (tree_at i.grove.pool.nodes r)) root in
     let fr = c.locate-at.ensures.frames in
     let big = g.met.K.Key.wide.0 in
     let fits = one_fits i.shut w k c.in_default.ensures in
@@ -178,7 +178,7 @@ returns g c =
     let accepted : ℕ → ℕ → Answered = λ x y. record { answer = record { outcome = Ok old; number = 0; frames = x + r.frames; visits = y; rebuilding = r.rebuilding }; places = [] } in
     let made : Step w i.limit (state_of f tally i) (Remove k) [] (accepted c.locate-at.result.frames c.find-found.result.visits) (state_of p n j) =
     subst (λ x. Step w i.limit (state_of f tally i) (Remove k) [] (accepted x c.find-found.result.visits) (state_of p n j)) (sym fr)
-    (subst (λ y. Step w i.limit (state_of f tally i) (Remove k) [] (accepted (searching w (reps_of i.table) k) y) (state_of p n j)) (sym seen_is) t) in
+    (subst (λ y. Step w i.limit (state_of f tally i) (Remove k) [] (accepted (searching w (reps_of i.grove.table) k) y) (state_of p n j)) (sym seen_is) t) in
     record {
       sound = subst (λ b. Unless b (Whole w p (g.D.Dictionary.room z) n j)) (sym (en.rest.2 ∙ o.0)) whole;
       does = subst (λ b. Does b w i.limit (state_of f tally i) (Remove k) [] (accepted c.locate-at.result.frames c.find-found.result.visits) (state_of p n j)) (sym o.0) made;
