@@ -32,7 +32,7 @@ opened_as false w f₀ room₀ held₀ tally₀ f room tally i e bare kept made 
       closed = λ z. let y : ◌≡◌ {A = ℕ} 0 1 = cc in absurd (omega arith);
       fitted = λ _. record {
         pairs = f;
-        laid = subst (λ x. Laid w (reps x) f) bare.buckets (laid w f i.table i.pool so.trie);
+        laid = subst (λ x. Laid w (reps x) f) bare.buckets (laid w f i.grove.table i.grove.pool so.trie);
         view = λ j. view_of w (k.0 j) (k.1 j) f (λ c. visits w c (bare.buckets j) (bare.trees j)) (bare.buckets j);
       };
     }

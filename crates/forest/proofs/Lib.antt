@@ -5,3 +5,4 @@ pub mod Walks
 pub mod Rebuilds
 pub mod Middles
 pub mod Unions
+pub mod Fresh

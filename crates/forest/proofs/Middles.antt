@@ -127,10 +127,8 @@ module _ (t : Table) (p : Pool) (n k h : ℕ) (ls us : List ℕ) (f : Forest t p
           long_high : length us ≡ length (drop h (items_of t p n))
           long_high = sym (length-map us (entry_at ms)) ∙ ap length (sym bb.holds ∙ high_holds)
 
-      pub halved : h ≡ length (items_of t p n) / 2 → Halved t p u q n k
-      halved e = record {
-        forest = halves.forest;
-        kept = halves.kept;
-        lower = halves.one ∙ ap (λ z. take z (items_of t p n)) e;
-        upper = halves.other ∙ ap (λ z. drop z (items_of t p n)) e;
-      }
+      pub halved : h ≡ length (items_of t p n) / 2 → Forest u q × Halved t p u q n k
+      halved e = (
+        halves.forest,
+        record { kept = halves.kept; lower = halves.one ∙ ap (λ z. take z (items_of t p n)) e; upper = halves.other ∙ ap (λ z. drop z (items_of t p n)) e },
+      )

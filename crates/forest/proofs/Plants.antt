@@ -59,12 +59,11 @@ module _ (t : Table) (p : Pool) (u : Table) (q : Pool) (n root size : ℕ) (ps :
   moved_count : (m : ℕ) → times m (used u q) + times m (places_of t p n) ≡ times m (used t p) + times m (places (tree_at q.nodes root))
   moved_count m = omega (arith, one_moved t p u q (n ∷ []) ps f altered n refl i m, ap (λ z. times m (places (tree_at q.nodes z))) root_is)
 
-  replanted : Shared (used u q) (free q) → Replanted t p u q n es
-  replanted sh = record {
-    forest = planted t p u q (n ∷ []) ps f altered (subst (Standing q.nodes) (sym root_is) s, tt) (size_is, tt) sh;
-    kept = kept_but t p u q (n ∷ []) ps f altered;
-    items = items_are;
-  }
+  replanted : Shared (used u q) (free q) → Forest u q × Replanted t p u q n es
+  replanted sh = (
+    planted t p u q (n ∷ []) ps f altered (subst (Standing q.nodes) (sym root_is) s, tt) (size_is, tt) sh,
+    record { kept = kept_but t p u q (n ∷ []) ps f altered; items = items_are },
+  )
 
 module _ (t : Table) (p o : Pool) (n fresh root : ℕ) (e : Entry) (f : Forest t p) (i : among n (order_of t) ≡ true)
     (new : at e.key (items_of t p n) ≡ []) (same : o.nodes ≡ p.nodes) (l : Lent (used t p) (free o) fresh) (is : root ≡ root_of t n) where
@@ -82,7 +81,7 @@ module _ (t : Table) (p o : Pool) (n fresh root : ℕ) (e : Entry) (f : Forest t
     grew = subst (λ x. Grew p.nodes q.nodes r fresh e (tree_at p.nodes x) (tree_at q.nodes r.root)) is
         (subst (λ ns. Grew ns q.nodes r fresh e (tree_at ns root) (tree_at q.nodes r.root)) same g)
 
-    pub grown : Replanted t p u q n (put e (items_of t p n))
+    pub grown : Forest u q × Replanted t p u q n (put e (items_of t p n))
     grown =
         let out : (x : ℕ) → among x (order_of t) ≡ true → (x ≡ n → ⊥) → (m : ℕ) → times m (places_of t p x) + times m (fresh ∷ places_of t p n) ≤ 1 =
         λ x a ne m. omega (arith, two_parts (places_of t p) m (order_of t) x n a i ne, l.shared m, at_most m) in
@@ -118,7 +117,7 @@ module _ (t : Table) (p : Pool) (n root key : ℕ) (f : Forest t p) (i : among n
     give_ready m = omega (arith, left_count m, shrank.lost.spots m, f.shared m)
 
     module _ (u : Table) (q : Pool) (size : ℕ) (ends : q.nodes ≡ ms) (sh : Shared left (free q)) (w : Written t u (with_at (root_of t) n r.root) (with_at (size_of t) n size)) (fewer : size ≡ size_of t n - 1) where
-      pub shrunk : Replanted t p u q n (without key (items_of t p n))
+      pub shrunk : Forest u q × Replanted t p u q n (without key (items_of t p n))
       shrunk =
           let ps : List ℕ = places (tree_at ms r.root) in
           let out : (x : ℕ) → among x (order_of t) ≡ true → (x ≡ n → ⊥) → (m : ℕ) → times m (places_of t p x) + times m ps ≤ 1 =

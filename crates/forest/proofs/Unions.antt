@@ -46,7 +46,7 @@ module _ (t : Table) (p : Pool) (n k : ℕ) (f : Forest t p) (i : among n (order
     unite_ready = subst (Order p.nodes) (sym is) both_order
 
     pub united : (u : Table) (q : Pool) (root x y : ℕ) → Built p.nodes q.nodes all root (tree_at q.nodes root) →
-        Written t u (with_at (with_at (root_of t) n root) k 65535) (with_at (with_at (size_of t) n x) k y) → x ≡ count → y ≡ 0 → free q ≡ free p → United t p u q n k
+        Written t u (with_at (with_at (root_of t) n root) k 65535) (with_at (with_at (size_of t) n x) k y) → x ≡ count → y ≡ 0 → free q ≡ free p → Forest u q × United t p u q n k
     united u q root x y bu v long none same =
         let es : entries_at q.nodes root ≡ items_of t p n ++ items_of t p k =
         bu.holds ∙ ap (map (entry_at p.nodes)) is ∙ map-append (entry_at p.nodes) (places_of t p n) (places_of t p k)
@@ -56,4 +56,4 @@ module _ (t : Table) (p : Pool) (n k : ℕ) (f : Forest t p) (i : among n (order
         both t p u q n k root 65535 x y all f i j ne v bu.kept (λ m. ap (times m) is ∙ times_append m (places_of t p n) (places_of t p k))
         (λ m. omega (arith, bu.spots m, ap (λ z. times m (places z)) leafless)) bu.stands (standing_none q.nodes bu.stands.few)
         (items_of t p n ++ items_of t p k) [] es (ap entries leafless) (long ∙ w.counted ∙ ap length (sym is) ∙ sym (length-map all (entry_at p.nodes)) ∙ ap length (sym bu.holds ∙ es)) none same in
-        record { forest = r.forest; kept = r.kept; all = r.one; none = r.other }
+        (r.forest, record { kept = r.kept; all = r.one; none = r.other })

@@ -53,18 +53,15 @@ pub record KeptBut (t : Table) (p : Pool) (u : Table) (q : Pool) (ns : List ℕ)
   pub others : (i : ℕ) → among i (order_of t) ≡ true → AllByRecursion (λ n. i ≢ n) ns → tree_of u q i ≡ tree_of t p i
 
 pub record Replanted (t : Table) (p : Pool) (u : Table) (q : Pool) (n : ℕ) (es : List Entry) : Type 0 where
-  pub forest : Forest u q
   pub kept : KeptBut t p u q (n ∷ [])
   pub items : items_of u q n ≡ es
 
 pub record Halved (t : Table) (p : Pool) (u : Table) (q : Pool) (n m : ℕ) : Type 0 where
-  pub forest : Forest u q
   pub kept : KeptBut t p u q (n ∷ m ∷ [])
   pub lower : items_of u q n ≡ take (length (items_of t p n) / 2) (items_of t p n)
   pub upper : items_of u q m ≡ drop (length (items_of t p n) / 2) (items_of t p n)
 
 pub record United (t : Table) (p : Pool) (u : Table) (q : Pool) (n m : ℕ) : Type 0 where
-  pub forest : Forest u q
   pub kept : KeptBut t p u q (n ∷ m ∷ [])
   pub all : items_of u q n ≡ items_of t p n ++ items_of t p m
   pub none : items_of u q m ≡ []

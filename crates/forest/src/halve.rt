@@ -3,41 +3,42 @@ ghost use Rattle.std.specs.Prelude.{◌≡◌, ◌/◌, ◌<◌, ◌≤◌, true
 ghost use Rattle.dictionary.specs.Pairs.{among};
 ghost use Rattle.entry.specs.Lists.{first};
 ghost use Rattle.buckets.specs.Tables.{order_of};
-ghost use Rattle.forest.specs.Forests.{Forest, items_of, Halved};
+ghost use Rattle.forest.specs.Forests.{items_of, Halved};
 
-use avl::{Pool, build};
-use buckets::Table;
+use crate::Grove;
+use avl::build;
 use trees::walk;
 
-// The lowest key of a bucket's upper half.
-pub fn middle_key(table: &Table, pool: &Pool, number: u16) -> u64
-    requires forest { Forest table.now pool.now }
-    requires stands { among number (order_of table.now) ≡ true }
-    requires some { 1 ≤ length (items_of table.now pool.now number) }
-    ensures { result ≡ (first (drop (length (items_of table.now pool.now number) / 2) (items_of table.now pool.now number))).key }
-{
-    let mut row = [0u16; 512];
-    let count = walk(&pool.nodes, table.root(number), &mut row, 0);
-    pool.nodes[row[count / 2] as usize].key
-}
+impl Grove {
+    // The lowest key of a bucket's upper half.
+    pub fn middle_key(&self, number: u16) -> u64
+        requires stands { among number (order_of self.now.table) ≡ true }
+        requires some { 1 ≤ length (items_of self.now.table self.now.pool number) }
+        ensures { result ≡ (first (drop (length (items_of self.now.table self.now.pool number) / 2) (items_of self.now.table self.now.pool number))).key }
+    {
+        let mut row = [0u16; 512];
+        let count = walk(&self.pool.nodes, self.table.root(number), &mut row, 0);
+        self.pool.nodes[row[count / 2] as usize].key
+    }
 
-// The upper half of a bucket's nodes becomes the tree of another bucket, which has none yet.
-pub fn halve(table: &mut Table, pool: &mut Pool, number: u16, other: u16)
-    requires forest { Forest table.old pool.old }
-    requires stands { among number (order_of table.old) ≡ true }
-    requires beside { among other (order_of table.old) ≡ true }
-    requires apart { number ≢ other }
-    requires empty { items_of table.old pool.old other ≡ [] }
-    ensures { Halved table.old pool.old table.new pool.new number other }
-{
-    let mut row = [0u16; 512];
-    let count = walk(&pool.nodes, table.root(number), &mut row, 0);
-    let (lower, rest) = row.split_at(count / 2);
-    let (upper, _) = rest.split_at(count - count / 2);
-    let low_root = build(&mut pool.nodes, lower);
-    let high_root = build(&mut pool.nodes, upper);
-    table.set_root(number, low_root);
-    table.set_size(number, lower.len() as u16);
-    table.set_root(other, high_root);
-    table.set_size(other, upper.len() as u16);
+    // The upper half of a bucket's nodes becomes the tree of another bucket, which has none yet.
+    pub fn halve(&mut self, number: u16, other: u16)
+        requires stands { among number (order_of self.old.table) ≡ true }
+        requires beside { among other (order_of self.old.table) ≡ true }
+        requires apart { number ≢ other }
+        requires empty { items_of self.old.table self.old.pool other ≡ [] }
+        ensures { Halved self.old.table self.old.pool self.new.table self.new.pool number other }
+    {
+        let Grove { table, pool } = self;
+        let mut row = [0u16; 512];
+        let count = walk(&pool.nodes, table.root(number), &mut row, 0);
+        let (lower, rest) = row.split_at(count / 2);
+        let (upper, _) = rest.split_at(count - count / 2);
+        let low_root = build(&mut pool.nodes, lower);
+        let high_root = build(&mut pool.nodes, upper);
+        table.set_root(number, low_root);
+        table.set_size(number, lower.len() as u16);
+        table.set_root(other, high_root);
+        table.set_size(other, upper.len() as u16);
+    }
 }

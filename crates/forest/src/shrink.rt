@@ -3,22 +3,24 @@ ghost use Rattle.std.specs.Prelude.{◌≡◌, true};
 ghost use Rattle.dictionary.specs.Pairs.{among};
 ghost use Rattle.entry.specs.Lists.{at, without, filled};
 ghost use Rattle.buckets.specs.Tables.{order_of};
-ghost use Rattle.forest.specs.Forests.{Forest, items_of, Replanted};
+ghost use Rattle.forest.specs.Forests.{items_of, Replanted};
 
-use avl::{Pool, remove};
-use buckets::Table;
+use crate::Grove;
+use avl::remove;
 
-// Takes the entry of a held key out of the tree of its bucket, and its node back into the pool.
-pub fn shrink(table: &mut Table, pool: &mut Pool, number: u16, key: u64)
-    requires forest { Forest table.old pool.old }
-    requires stands { among number (order_of table.old) ≡ true }
-    requires held { filled (at key (items_of table.old pool.old number)) ≡ true }
-    ensures { Replanted table.old pool.old table.new pool.new number (without key (items_of table.old pool.old number)) }
-{
-    let root = table.root(number);
-    let shrunk = remove(&mut pool.nodes, root, key);
-    pool.give(shrunk.gone);
-    table.set_root(number, shrunk.root);
-    let size = table.size(number);
-    table.set_size(number, size - 1);
+impl Grove {
+    // Takes the entry of a held key out of the tree of its bucket, and its node back into the pool.
+    pub fn shrink(&mut self, number: u16, key: u64)
+        requires stands { among number (order_of self.old.table) ≡ true }
+        requires held { filled (at key (items_of self.old.table self.old.pool number)) ≡ true }
+        ensures { Replanted self.old.table self.old.pool self.new.table self.new.pool number (without key (items_of self.old.table self.old.pool number)) }
+    {
+        let Grove { table, pool } = self;
+        let root = table.root(number);
+        let shrunk = remove(&mut pool.nodes, root, key);
+        pool.give(shrunk.gone);
+        table.set_root(number, shrunk.root);
+        let size = table.size(number);
+        table.set_size(number, size - 1);
+    }
 }

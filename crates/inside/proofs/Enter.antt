@@ -58,26 +58,26 @@ row_replanted t u p q n es pre post is rises re =
     ∙ (ap (λ l. set (map old l) (length pre) (new n)) (sym is) ∙ ap (set (row_of t p) (length pre)) now_is))
 
 module _ (w : ℕ) (f : Pairs) (room tally : ℕ) (i : Inside) (big : 8 ≤ w) (wh : Whole w f room tally i) (e : Entry) (h : e.key < 2 ^ w)
-    (new : at e.key (items_of i.table i.pool (holder (rep_of i.table) (order_of i.table) e.key)) ≡ []) (free : i.count < i.limit) where
+    (new : at e.key (items_of i.grove.table i.grove.pool (holder (rep_of i.grove.table) (order_of i.grove.table) e.key)) ≡ []) (free : i.count < i.limit) where
   abbrev s : List Bucket
-  s = row_of i.table i.pool
+  s = row_of i.grove.table i.grove.pool
 
   abbrev k : ℕ
   k = e.key
 
   abbrev n : ℕ
-  n = holder (rep_of i.table) (order_of i.table) k
+  n = holder (rep_of i.grove.table) (order_of i.grove.table) k
 
-  c : InRow (rep_of i.table) (order_of i.table) k n
-  c = held_in w f i.table wh.trie k
+  c : InRow (rep_of i.grove.table) (order_of i.grove.table) k n
+  c = held_in w f i.grove.table wh.trie k
 
   -- the step of the rules
-  pub add_rules : (ps : List Entry) → step w i.limit (Add k e.note) ps s ≡ alters (answered e ps) (searching w (map (rep_of i.table) (order_of i.table)) k) (grown w (place k s) (with_entry e s))
+  pub add_rules : (ps : List Entry) → step w i.limit (Add k e.note) ps s ≡ alters (answered e ps) (searching w (map (rep_of i.grove.table) (order_of i.grove.table)) k) (grown w (place k s) (with_entry e s))
   unfolding step added
   add_rules ps =
-      let items = items_of i.table i.pool in
-      let is = add_served (rep_of i.table) items (tree_of i.table i.pool) (order_of i.table) k n c w i.limit e.note ps in
-      let at_place = placed (rep_of i.table) items (tree_of i.table i.pool) (order_of i.table) k n c in
+      let items = items_of i.grove.table i.grove.pool in
+      let is = add_served (rep_of i.grove.table) items (tree_of i.grove.table i.grove.pool) (order_of i.grove.table) k n c w i.limit e.note ps in
+      let at_place = placed (rep_of i.grove.table) items (tree_of i.grove.table i.grove.pool) (order_of i.grove.table) k n c in
       let low : leb i.limit (total s) ≡ false = lt-leb i.limit (total s) (omega (arith, wh.counted)) in
       rw (fits_large w k h, is, new, low, at_place) refl
 
@@ -101,16 +101,16 @@ module _ (w : ℕ) (f : Pairs) (room tally : ℕ) (i : Inside) (big : 8 ≤ w) (
   splits_as lt = cond-true _ _ _ (lt-ltb (5 * half w) (size (here (place k s) (with_entry e s))) lt)
 
   -- ---- the table u and the pool q once the entry is in its tree
-  module _ (u : Table) (q : Pool) (re : Replanted i.table i.pool u q n (put e (items_of i.table i.pool n))) where
+  module _ (u : Table) (q : Pool) (re : Replanted i.grove.table i.grove.pool u q n (put e (items_of i.grove.table i.grove.pool n))) where
     at_place : place k s ≡ length c.pre
-    at_place = placed (rep_of i.table) (items_of i.table i.pool) (tree_of i.table i.pool) (order_of i.table) k n c
+    at_place = placed (rep_of i.grove.table) (items_of i.grove.table i.grove.pool) (tree_of i.grove.table i.grove.pool) (order_of i.grove.table) k n c
 
-    was : (here (place k s) s).items ≡ items_of i.table i.pool n
-    was = here_items (rep_of i.table) (items_of i.table i.pool) (tree_of i.table i.pool) (order_of i.table) k n c
+    was : (here (place k s) s).items ≡ items_of i.grove.table i.grove.pool n
+    was = here_items (rep_of i.grove.table) (items_of i.grove.table i.grove.pool) (tree_of i.grove.table i.grove.pool) (order_of i.grove.table) k n c
 
     pub row_entered : row_of u q ≡ with_entry e s
     row_entered =
-        row_replanted i.table u i.pool q n (put e (items_of i.table i.pool n)) c.pre c.post c.is wh.trie.ordered.rises re
+        row_replanted i.grove.table u i.grove.pool q n (put e (items_of i.grove.table i.grove.pool n)) c.pre c.post c.is wh.trie.ordered.rises re
         ∙ (ap (λ (es : List Entry). set s (length c.pre) (with_items (here (length c.pre) s) (put e es))) (sym was)
         ∙ ap (λ j. set s j (with_items (here j s) (put e (here (place k s) s).items))) (sym at_place))
 

@@ -56,4 +56,10 @@ sound_kept w f f' room room' tally n i e r so = keep i.shut so
   where
     keep : (b : Bool) → Unless b (Whole w f room tally i) → Unless b (Whole w f' room' n i)
     keep true s = tt
-    keep false s = record { trie = subst (λ h. TrieSound w h i.table) (sym e) s.trie; forest = s.forest; buckets = s.buckets; notes = s.notes; counted = s.counted; small = s.small; fits = subst (λ x. needed w i.limit ≤ x) (sym r) s.fits }
+    keep false s = record { trie = subst (λ h. TrieSound w h i.grove.table) (sym e) s.trie; buckets = s.buckets; notes = s.notes; counted = s.counted; small = s.small; fits = subst (λ x. needed w i.limit ≤ x) (sym r) s.fits }
+
+-- and whose inside is the same
+pub open_does_on : (w : ℕ) (f f' : Pairs) (tally n : ℕ) (i j : Inside) (c : Call) (ps : List Entry) (a a' : Answered) → i.shut ≡ false → f' ≡ f → j ≡ i → a' ≡ a →
+    Step w i.limit (state_of f tally i) c ps a (state_of f n i) → Does i.shut w i.limit (state_of f tally i) c ps a' (state_of f' n j)
+open_does_on w f f' tally n i j c ps a a' s e same q t =
+    subst (λ (x : Inside). Does i.shut w i.limit (state_of f tally i) c ps a' (state_of f' n x)) (sym same) (open_does w f f' tally n i c ps a a' s e q t)

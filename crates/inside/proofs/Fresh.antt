@@ -21,7 +21,9 @@ use Rattle.rules.specs.Buckets.{Sound as BucketsSound}
 use Rattle.rules.proofs.Running.{new_sound}
 use Rattle.rows.specs.Rows.{row}
 use Rattle.trie.specs.Sound.{Sound as TrieSound}
-use Rattle.forest.specs.Forests.{tree_of, items_of, places_of, row_of, grove_of, used, Forest}
+use Rattle.forest.specs.declared.Grove.{Grove}
+use Rattle.forest.specs.Forests.{tree_of, items_of, row_of, grove_of}
+use Rattle.forest.proofs.Fresh.{tree_first}
 use Rattle.inside.specs.Whole.{Whole}
 use Rattle.inside.specs.Making.{Bare}
 use Rattle.trees.proofs.Pools.{standing_none}
@@ -68,42 +70,27 @@ pairless f (x ∷ ns) held e = absurd (omega arith)
 
 -- ---- one bucket without an entry
 module _ (t : Table) (p : Pool) (f : Fresh t) where
-  tree_first : tree_of t p 0 ≡ leaf
-  tree_first = end_is p.nodes (root_of t 0) f.root
-
-  pub fresh_row : row_of t p ≡ new
+  fresh_row : row_of t p ≡ new
   fresh_row =
       ap (row (rep_of t) (items_of t p)) f.order
-      ∙ (ap (λ r. record { rep = r; items = items_of t p 0 } ∷ []) f.rep ∙ ap (λ (x : Tree). record { rep = 0; items = entries x } ∷ []) tree_first)
+      ∙ (ap (λ r. record { rep = r; items = items_of t p 0 } ∷ []) f.rep ∙ ap (λ (x : Tree). record { rep = 0; items = entries x } ∷ []) (tree_first t p f))
 
-  pub fresh_grove : grove_of t p ≡ leaf ∷ []
-  fresh_grove = ap (map (tree_of t p)) f.order ∙ ap (λ x. x ∷ []) tree_first
+  fresh_grove : grove_of t p ≡ leaf ∷ []
+  fresh_grove = ap (map (tree_of t p)) f.order ∙ ap (λ x. x ∷ []) (tree_first t p f)
 
-  pub fresh_bare : (limit : ℕ) (shut : Bool) → Bare (record { table = t; pool = p; limit = limit; count = 0; shut = shut })
-  fresh_bare limit shut = record { buckets = fresh_row; trees = fresh_grove; count = refl }
+module _ (g : Grove) (f : Fresh g.table) where
+  pub fresh_bare : (limit : ℕ) (shut : Bool) → Bare (record { grove = g; limit = limit; count = 0; shut = shut })
+  fresh_bare limit shut = record { buckets = fresh_row g.table g.pool f; trees = fresh_grove g.table g.pool f; count = refl }
 
-  in_order : (P : ℕ → Type 0) → P 0 → AllByRecursion P (order_of t)
-  in_order P h = subst (AllByRecursion P) (sym f.order) (h, tt)
-
-  unused_places : used t p ≡ []
-  unused_places = ap (flat_map (places_of t p)) f.order ∙ ap (λ (x : Tree). flat_map (λ (n : ℕ). places x) (0 ∷ [])) tree_first
-
-  module _ (share : Shared [] (free p)) where
-    fresh_forest : Forest t p
-    fresh_forest = record {
-      trees = in_order (λ n. Standing p.nodes (root_of t n)) (subst (Standing p.nodes) (sym f.root) (standing_none p.nodes (let h = p.whole in omega arith)));
-      sizes = in_order (λ n. size_of t n ≡ length (items_of t p n)) (f.size ∙ sym (ap (λ x. length (entries x)) tree_first));
-      shared = subst (λ xs. Shared xs (free p)) (sym unused_places) share;
-    }
-
-    pub fresh_whole : (w limit room tally : ℕ) (pairs : Pairs) → TrieSound w pairs t → limit ≤ 512 → needed w limit ≤ room →
-        Whole w pairs room tally (record { table = t; pool = p; limit = limit; count = 0; shut = false })
-    fresh_whole w limit room tally pairs so small enough = record {
-      trie = so;
-      forest = fresh_forest;
-      buckets = subst (BucketsSound w limit) (sym fresh_row) (new_sound w limit);
-      notes = subst (λ s. AllByRecursion (λ (e : Entry). e.note < 2 ^ 64) (flat s)) (sym fresh_row) tt;
-      counted = sym (ap total fresh_row);
-      small = small;
-      fits = enough;
-    }
+  pub fresh_whole : (w limit room tally : ℕ) (pairs : Pairs) → TrieSound w pairs g.table → limit ≤ 512 → needed w limit ≤ room →
+      Whole w pairs room tally (record { grove = g; limit = limit; count = 0; shut = false })
+  fresh_whole w limit room tally pairs so small enough =
+      let row = fresh_row g.table g.pool f in
+      record {
+        trie = so;
+        buckets = subst (BucketsSound w limit) (sym row) (new_sound w limit);
+        notes = subst (λ s. AllByRecursion (λ (e : Entry). e.note < 2 ^ 64) (flat s)) (sym row) tt;
+        counted = sym (ap total row);
+        small = small;
+        fits = enough;
+      }

@@ -157,18 +157,18 @@ shrunk_mended w i s h long = cond-true _ _ _ (and_from (ltb (size (here i s)) (h
 
 -- ---- the row without the entry
 module _ (w : ℕ) (f : Pairs) (room tally : ℕ) (i : Inside) (big : 8 ≤ w) (wh : Whole w f room tally i) (k : ℕ) (h : k < 2 ^ w) (n : ℕ)
-    (here_n : n ≡ holder (rep_of i.table) (order_of i.table) k) (some : filled (at k (items_of i.table i.pool n)) ≡ true) where
+    (here_n : n ≡ holder (rep_of i.grove.table) (order_of i.grove.table) k) (some : filled (at k (items_of i.grove.table i.grove.pool n)) ≡ true) where
   abbrev pub s : List Bucket
-  s = row_of i.table i.pool
+  s = row_of i.grove.table i.grove.pool
 
-  pub c : InRow (rep_of i.table) (order_of i.table) k n
-  c = subst (InRow (rep_of i.table) (order_of i.table) k) (sym here_n) (held_in w f i.table wh.trie k)
+  pub c : InRow (rep_of i.grove.table) (order_of i.grove.table) k n
+  c = subst (InRow (rep_of i.grove.table) (order_of i.grove.table) k) (sym here_n) (held_in w f i.grove.table wh.trie k)
 
-  items_here : (here (place k s) s).items ≡ items_of i.table i.pool n
-  items_here = here_items (rep_of i.table) (items_of i.table i.pool) (tree_of i.table i.pool) (order_of i.table) k n c
+  items_here : (here (place k s) s).items ≡ items_of i.grove.table i.grove.pool n
+  items_here = here_items (rep_of i.grove.table) (items_of i.grove.table i.grove.pool) (tree_of i.grove.table i.grove.pool) (order_of i.grove.table) k n c
 
   pub at_place : place k s ≡ length c.pre
-  at_place = placed (rep_of i.table) (items_of i.table i.pool) (tree_of i.table i.pool) (order_of i.table) k n c
+  at_place = placed (rep_of i.grove.table) (items_of i.grove.table i.grove.pool) (tree_of i.grove.table i.grove.pool) (order_of i.grove.table) k n c
 
   pub some_counted : 1 ≤ i.count
   some_counted =
@@ -182,16 +182,16 @@ module _ (w : ℕ) (f : Pairs) (room tally : ℕ) (i : Inside) (big : 8 ≤ w) (
       (changed_items w k (place k s) s sp (without k (here (place k s) s).items)
       (rise_without (here (place k s) s).rep (lowest (2 ^ w) (drop (place k s + 1) s)) k (here (place k s) s).items sp.low sp.high sp.mine)).0
 
-  pub left_room : (w + 1) * length (order_of i.table) ≤ room
+  pub left_room : (w + 1) * length (order_of i.grove.table) ≤ room
   left_room =
-      let few : length (order_of i.table) ≤ buckets_for w i.limit = omega (arith, few_buckets w i.limit s big wh.buckets, length-map (order_of i.table) (bucket (rep_of i.table) (items_of i.table i.pool))) in
+      let few : length (order_of i.grove.table) ≤ buckets_for w i.limit = omega (arith, few_buckets w i.limit s big wh.buckets, length-map (order_of i.grove.table) (bucket (rep_of i.grove.table) (items_of i.grove.table i.grove.pool))) in
       omega (arith, wh.fits, mul-le-mul_left (w + 1) few)
 
-  module _ (u : Table) (q : Pool) (re : Replanted i.table i.pool u q n (without k (items_of i.table i.pool n))) where
+  module _ (u : Table) (q : Pool) (fu : Forest u q) (re : Replanted i.grove.table i.grove.pool u q n (without k (items_of i.grove.table i.grove.pool n))) where
     pub row_left : row_of u q ≡ without_entry k s
     row_left =
-        row_replanted i.table u i.pool q n (without k (items_of i.table i.pool n)) c.pre c.post c.is wh.trie.ordered.rises re
-        ∙ (ap (λ j. set s j (with_items (here j s) (without k (items_of i.table i.pool n)))) (sym at_place)
+        row_replanted i.grove.table u i.grove.pool q n (without k (items_of i.grove.table i.grove.pool n)) c.pre c.post c.is wh.trie.ordered.rises re
+        ∙ (ap (λ j. set s j (with_items (here j s) (without k (items_of i.grove.table i.grove.pool n)))) (sym at_place)
         ∙ ap (λ es. set s (place k s) (with_items (here (place k s) s) (without k es))) (sym items_here))
 
     pub cut_left : order_of u ≡ c.pre ++ n ∷ c.post
@@ -202,7 +202,7 @@ module _ (w : ℕ) (f : Pairs) (room tally : ℕ) (i : Inside) (big : 8 ≤ w) (
         ap (λ l. size (here (place k s) l)) (sym row_left)
         ∙ (ap (λ j. size (here j (row_of u q))) at_place
         ∙ (here_size u q n c.pre c.post cut_left
-        ∙ sym (all_among (λ n. size_of u n ≡ length (items_of u q n)) (order_of u) n re.forest.sizes
+        ∙ sym (all_among (λ n. size_of u n ≡ length (items_of u q n)) (order_of u) n fu.sizes
         (subst (λ o. among n o ≡ true) (sym cut_left) (among_right n c.pre (n ∷ c.post) (among_first n c.post))))))
 
     pub long_after : length (without_entry k s) ≡ length (order_of u)

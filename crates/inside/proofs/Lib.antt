@@ -19,4 +19,4 @@ pub mod Spans
 pub mod Splits
 pub mod Removes
 pub mod Leave
-pub mod Same
+pub mod Looking

@@ -15,8 +15,8 @@ use Rattle.inside.specs.Spans.{onward, kept_in}
 use Rattle.inside.specs.Whole.{Whole, Sound, Unless}
 use Rattle.inside.proofs.Ranges.{onward_cut}
 
-pub zero_held : (i : Inside) → among 0 (order_of i.table) ≡ true
-zero_held i = ap (among 0) (order_is i.table)
+pub zero_held : (i : Inside) → among 0 (order_of i.grove.table) ≡ true
+zero_held i = ap (among 0) (order_is i.grove.table)
 
 -- an index that is not shut is whole
 pub whole_of : (w : ℕ) (f : Pairs) (room tally : ℕ) (i : Inside) → i.shut ≡ false → Sound w f room tally i → Whole w f room tally i
@@ -27,21 +27,21 @@ whole_of w f room tally i s so = opened i.shut s so
     opened false e x = x
 
 module _ (w : ℕ) (f : Pairs) (room tally : ℕ) (i : Inside) (wide : w ≤ 60) (ready : i.shut ≡ false) (wh : Whole w f room tally i) where
-  pub kept_open : kept_in i ≡ flat (row_of i.table i.pool)
-  kept_open = cond-false i.shut [] (flat (row_of i.table i.pool)) ready
+  pub kept_open : kept_in i ≡ flat (row_of i.grove.table i.grove.pool)
+  kept_open = cond-false i.shut [] (flat (row_of i.grove.table i.grove.pool)) ready
 
   -- every key is in the widest span
-  pub all_spanned : between 0 18446744073709551615 (onward i.table i.pool 0) ≡ kept_in i
+  pub all_spanned : between 0 18446744073709551615 (onward i.grove.table i.grove.pool 0) ≡ kept_in i
   all_spanned =
-      let xs = flat (row_of i.table i.pool) in
+      let xs = flat (row_of i.grove.table i.grove.pool) in
       let up : 2 ^ w ≤ 2 ^ 60 = pow_mono wide in
-      let inner = in_rise _ _ xs (rise_flat (2 ^ w) (row_of i.table i.pool) wh.buckets.spread) in
-      let is : onward i.table i.pool 0 ≡ xs =
-      onward_cut i.table i.pool [] 0 (rest_of i.table) (order_is i.table)
-      ∙ (ap (flat_map (items_of i.table i.pool)) (sym (order_is i.table)) ∙ sym (row_flat (rep_of i.table) (items_of i.table i.pool) (order_of i.table))) in
+      let inner = in_rise _ _ xs (rise_flat (2 ^ w) (row_of i.grove.table i.grove.pool) wh.buckets.spread) in
+      let is : onward i.grove.table i.grove.pool 0 ≡ xs =
+      onward_cut i.grove.table i.grove.pool [] 0 (rest_of i.grove.table) (order_is i.grove.table)
+      ∙ (ap (flat_map (items_of i.grove.table i.grove.pool)) (sym (order_is i.grove.table)) ∙ sym (row_flat (rep_of i.grove.table) (items_of i.grove.table i.grove.pool) (order_of i.grove.table))) in
       ap (between 0 18446744073709551615) is
       ∙ (ap (from 0) (upto_all _ _ 18446744073709551615 xs inner (omega (arith, up)))
       ∙ (from_all _ _ 0 xs inner (omega arith) ∙ sym kept_open))
 
   pub counted_all : i.count ≡ length (kept_in i)
-  counted_all = wh.counted ∙ (total_flat (row_of i.table i.pool) ∙ ap length (sym kept_open))
+  counted_all = wh.counted ∙ (total_flat (row_of i.grove.table i.grove.pool) ∙ ap length (sym kept_open))

@@ -39,7 +39,7 @@ places_none : (t : Tree) → entries t ≡ [] → places t ≡ []
 places_none t e = empty_long (places t) (places_long t ∙ ap length e)
 
 module _ (t u v : Table) (p q : Pool) (n m : ℕ) (pre post : List ℕ) (cut : order_of t ≡ pre ++ n ∷ m ∷ post) (rises : Rising (rep_of t) (order_of t))
-    (un : United t p u q n m) (sh : Shows v (without m (order_of u)) (rep_of u) (size_of u) (root_of u)) where
+    (fu : Forest u q) (un : United t p u q n m) (sh : Shows v (without m (order_of u)) (rep_of u) (size_of u) (root_of u)) where
   front_is : pre ++ n ∷ m ∷ post ≡ (pre ++ n ∷ []) ++ m ∷ post
   front_is = sym (append_assoc pre (n ∷ []) (m ∷ post))
 
@@ -58,16 +58,16 @@ module _ (t u v : Table) (p q : Pool) (n m : ℕ) (pre post : List ℕ) (cut : o
   forest_v =
       let out : (P : ℕ → Type 0) → AllByRecursion P (order_of u) → AllByRecursion P (order_of v) = λ P a. subst (AllByRecursion P) (sym (order_v ∙ sym (append_assoc pre (n ∷ []) post))) (all_out P m (pre ++ n ∷ []) post (subst (AllByRecursion P) order_u a)) in
       record {
-        trees = subst (λ (g : ℕ → ℕ). AllByRecursion (λ x. Standing q.nodes (g x)) (order_of v)) (sym sh.root) (out (λ x. Standing q.nodes (root_of u x)) un.forest.trees);
+        trees = subst (λ (g : ℕ → ℕ). AllByRecursion (λ x. Standing q.nodes (g x)) (order_of v)) (sym sh.root) (out (λ x. Standing q.nodes (root_of u x)) fu.trees);
         sizes =
             subst (λ (h : ℕ → ℕ). AllByRecursion (λ x. h x ≡ length (items_of v q x)) (order_of v)) (sym sh.size)
             (subst (λ (g : ℕ → ℕ). AllByRecursion (λ x. size_of u x ≡ length (entries (tree_at q.nodes (g x)))) (order_of v)) (sym sh.root)
-            (out (λ x. size_of u x ≡ length (items_of u q x)) un.forest.sizes));
+            (out (λ x. size_of u x ≡ length (items_of u q x)) fu.sizes));
         shared = subst (λ l. Shared l (free q)) (sym
             (ap (λ (g : ℕ → ℕ). flat_map (λ x. places (tree_at q.nodes (g x))) (order_of v)) sh.root
             ∙ (ap (flat_map (places_of u q)) (order_v ∙ sym (append_assoc pre (n ∷ []) post))
             ∙ (sym (joined_out (places_of u q) m (pre ++ n ∷ []) post (places_none (tree_of u q m) un.none))
-            ∙ ap (flat_map (places_of u q)) (sym order_u))))) un.forest.shared;
+            ∙ ap (flat_map (places_of u q)) (sym order_u))))) fu.shared;
       }
 
   -- ---- the row of buckets

@@ -38,4 +38,4 @@ held_in w f t so k = in_row (rep_of t) (order_of t) k so.ordered.rises (zero_fir
 
 pub sound_state : (w : ℕ) (f : Pairs) (room tally : ℕ) (i : Inside) → tally < 2 ^ 64 → Whole w f room tally i → StateSound w i.limit (state_of f tally i)
 sound_state w f room tally i h wh =
-    record { buckets = wh.buckets; notes = wh.notes; planted = planted i.table i.pool wh.forest; laid = laid w f i.table i.pool wh.trie; counts = h }
+    record { buckets = wh.buckets; notes = wh.notes; planted = planted i.grove.table i.grove.pool i.grove.forest; laid = laid w f i.grove.table i.grove.pool wh.trie; counts = h }

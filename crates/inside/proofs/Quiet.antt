@@ -40,12 +40,12 @@ one_key w k = elim (cases_Bool (leb (2 ^ w) k)) [
 module _ (w : ℕ) (f : Pairs) (room tally : ℕ) (i : Inside) (big : 8 ≤ w) (wh : Whole w f room tally i) where
   -- a call that leaves everything but the tally as it was
   pub quiet_step : (c : Call) (ps : List Entry) (a : Answered) (n : ℕ) → n < 2 ^ 64 → n ≡ raised tally a.answer.frames →
-      Obeys a (row_of i.table i.pool) (step w i.limit c ps (row_of i.table i.pool)) →
-      a.answer.visits ≡ visits w c (row_of i.table i.pool) (grove_of i.table i.pool) →
+      Obeys a (row_of i.grove.table i.grove.pool) (step w i.limit c ps (row_of i.grove.table i.grove.pool)) →
+      a.answer.visits ≡ visits w c (row_of i.grove.table i.grove.pool) (grove_of i.grove.table i.grove.pool) →
       Step w i.limit (state_of f tally i) c ps a (state_of f n i)
   quiet_step c ps a n h up o v =
       step_made w i.limit big (state_of f tally i) c ps a (state_of f n i) wh.buckets o
-      (record { notes = wh.notes; planted = planted i.table i.pool wh.forest; laid = laid w f i.table i.pool wh.trie; counts = h; visits = v; tally = up; still = λ _. (refl, refl) })
+      (record { notes = wh.notes; planted = planted i.grove.table i.grove.pool i.grove.forest; laid = laid w f i.grove.table i.grove.pool wh.trie; counts = h; visits = v; tally = up; still = λ _. (refl, refl) })
 
   -- a call that its keys bar
   pub barred_step : (c : Call) (ps : List Entry) (r : Refusal) → misfit w c ≡ Some r → tally < 2 ^ 64 →
@@ -74,24 +74,24 @@ module _ (w : ℕ) (f : Pairs) (room tally : ℕ) (i : Inside) (big : 8 ≤ w) (
   reply_rebuilding (Some e) r fr v = refl
 
   pub find_step : (k : ℕ) (ps : List Entry) (n : ℕ) → k < 2 ^ w →
-      let m = holder (rep_of i.table) (order_of i.table) k in
-      let fr = searching w (map (rep_of i.table) (order_of i.table)) k in
+      let m = holder (rep_of i.grove.table) (order_of i.grove.table) k in
+      let fr = searching w (map (rep_of i.grove.table) (order_of i.grove.table)) k in
       n < 2 ^ 64 → n ≡ raised tally fr →
-      Step w i.limit (state_of f tally i) (Find k) ps (record { answer = reply_of (foremost (at k (items_of i.table i.pool m))) Absent fr (seen k (tree_of i.table i.pool m)); places = ps }) (state_of f n i)
+      Step w i.limit (state_of f tally i) (Find k) ps (record { answer = reply_of (foremost (at k (items_of i.grove.table i.grove.pool m))) Absent fr (seen k (tree_of i.grove.table i.grove.pool m)); places = ps }) (state_of f n i)
   unfolding step visits
   find_step k ps n h b up =
-      let m = holder (rep_of i.table) (order_of i.table) k in
-      let items = items_of i.table i.pool in
-      let tree = tree_of i.table i.pool in
-      let order = order_of i.table in
-      let c = held_in w f i.table wh.trie k in
-      let fr = searching w (map (rep_of i.table) order) k in
+      let m = holder (rep_of i.grove.table) (order_of i.grove.table) k in
+      let items = items_of i.grove.table i.grove.pool in
+      let tree = tree_of i.grove.table i.grove.pool in
+      let order = order_of i.grove.table in
+      let c = held_in w f i.grove.table wh.trie k in
+      let fr = searching w (map (rep_of i.grove.table) order) k in
       let xs = at k (items m) in
       let v = seen k (tree m) in
       let a : Answered = record { answer = reply_of (foremost xs) Absent fr v; places = ps } in
       let none = fits_large w k h in
-      let is = find_served (rep_of i.table) items tree order k m c w i.limit ps in
-      let way = find_path (rep_of i.table) items tree order k m c in
+      let is = find_served (rep_of i.grove.table) items tree order k m c w i.limit ps in
+      let way = find_path (rep_of i.grove.table) items tree order k m c in
       quiet_step (Find k) ps a n b (up ∙ ap (raised tally) (sym (reply_frames (foremost xs) Absent fr v)))
       (rw (none, is) (record { told = found_told xs ps fr v; frames = reply_frames (foremost xs) Absent fr v; rebuilding = reply_rebuilding (foremost xs) Absent fr v; after = refl }))
       (reply_visits (foremost xs) Absent fr v ∙ sym (rw none way))
@@ -105,46 +105,46 @@ module _ (w : ℕ) (f : Pairs) (room tally : ℕ) (i : Inside) (big : 8 ≤ w) (
   far_told [] ps fr v = refl
   far_told (x ∷ xs) ps fr v = refl
 
-  pub next_step : (k : ℕ) (ps : List Entry) (n m : ℕ) (c : InRow (rep_of i.table) (order_of i.table) k m) → k < 2 ^ w →
-      let items = items_of i.table i.pool in
-      let fr = searching w (map (rep_of i.table) (order_of i.table)) k in
-      let v = seen k (tree_of i.table i.pool m) + cond (filled (from k (items m))) 0 (low_way (ahead leaf (tree_of i.table i.pool) c.post)) in
+  pub next_step : (k : ℕ) (ps : List Entry) (n m : ℕ) (c : InRow (rep_of i.grove.table) (order_of i.grove.table) k m) → k < 2 ^ w →
+      let items = items_of i.grove.table i.grove.pool in
+      let fr = searching w (map (rep_of i.grove.table) (order_of i.grove.table)) k in
+      let v = seen k (tree_of i.grove.table i.grove.pool m) + cond (filled (from k (items m))) 0 (low_way (ahead leaf (tree_of i.grove.table i.grove.pool) c.post)) in
       n < 2 ^ 64 → n ≡ raised tally fr →
       Step w i.limit (state_of f tally i) (Next k) ps (record { answer = reply_of (foremost (from k (items m) ++ ahead [] items c.post)) Nothing fr v; places = ps }) (state_of f n i)
   unfolding step visits
   next_step k ps n m c h b up =
-      let items = items_of i.table i.pool in
-      let tree = tree_of i.table i.pool in
-      let order = order_of i.table in
-      let fr = searching w (map (rep_of i.table) order) k in
+      let items = items_of i.grove.table i.grove.pool in
+      let tree = tree_of i.grove.table i.grove.pool in
+      let order = order_of i.grove.table in
+      let fr = searching w (map (rep_of i.grove.table) order) k in
       let xs = from k (items m) ++ ahead [] items c.post in
       let v = seen k (tree m) + cond (filled (from k (items m))) 0 (low_way (ahead leaf tree c.post)) in
       let a : Answered = record { answer = reply_of (foremost xs) Nothing fr v; places = ps } in
       let none = fits_large w k h in
-      let is = next_served (rep_of i.table) items tree order k m c w i.limit ps in
-      let way = next_path (rep_of i.table) items tree order k m c in
+      let is = next_served (rep_of i.grove.table) items tree order k m c w i.limit ps in
+      let way = next_path (rep_of i.grove.table) items tree order k m c in
       quiet_step (Next k) ps a n b (up ∙ ap (raised tally) (sym (reply_frames (foremost xs) Nothing fr v)))
       (rw (none, is) (record { told = near_told xs ps fr v; frames = reply_frames (foremost xs) Nothing fr v; rebuilding = reply_rebuilding (foremost xs) Nothing fr v; after = refl }))
       (reply_visits (foremost xs) Nothing fr v ∙ sym (rw none way))
 
-  pub last_step : (k : ℕ) (ps : List Entry) (n m : ℕ) (c : InRow (rep_of i.table) (order_of i.table) k m) → k < 2 ^ w →
-      let items = items_of i.table i.pool in
-      let fr = searching w (map (rep_of i.table) (order_of i.table)) k in
-      let v = seen k (tree_of i.table i.pool m) + cond (filled (upto k (items m))) 0 (high_way (back leaf (tree_of i.table i.pool) c.pre)) in
+  pub last_step : (k : ℕ) (ps : List Entry) (n m : ℕ) (c : InRow (rep_of i.grove.table) (order_of i.grove.table) k m) → k < 2 ^ w →
+      let items = items_of i.grove.table i.grove.pool in
+      let fr = searching w (map (rep_of i.grove.table) (order_of i.grove.table)) k in
+      let v = seen k (tree_of i.grove.table i.grove.pool m) + cond (filled (upto k (items m))) 0 (high_way (back leaf (tree_of i.grove.table i.grove.pool) c.pre)) in
       n < 2 ^ 64 → n ≡ raised tally fr →
       Step w i.limit (state_of f tally i) (Last k) ps (record { answer = reply_of (hindmost (back [] items c.pre ++ upto k (items m))) Nothing fr v; places = ps }) (state_of f n i)
   unfolding step visits
   last_step k ps n m c h b up =
-      let items = items_of i.table i.pool in
-      let tree = tree_of i.table i.pool in
-      let order = order_of i.table in
-      let fr = searching w (map (rep_of i.table) order) k in
+      let items = items_of i.grove.table i.grove.pool in
+      let tree = tree_of i.grove.table i.grove.pool in
+      let order = order_of i.grove.table in
+      let fr = searching w (map (rep_of i.grove.table) order) k in
       let xs = back [] items c.pre ++ upto k (items m) in
       let v = seen k (tree m) + cond (filled (upto k (items m))) 0 (high_way (back leaf tree c.pre)) in
       let a : Answered = record { answer = reply_of (hindmost xs) Nothing fr v; places = ps } in
       let none = fits_large w k h in
-      let is = last_served (rep_of i.table) items tree order k m c w i.limit ps in
-      let way = last_path (rep_of i.table) items tree order k m c in
+      let is = last_served (rep_of i.grove.table) items tree order k m c w i.limit ps in
+      let way = last_path (rep_of i.grove.table) items tree order k m c in
       quiet_step (Last k) ps a n b (up ∙ ap (raised tally) (sym (reply_frames (hindmost xs) Nothing fr v)))
       (rw (none, is) (record { told = far_told xs ps fr v; frames = reply_frames (hindmost xs) Nothing fr v; rebuilding = reply_rebuilding (hindmost xs) Nothing fr v; after = refl }))
       (reply_visits (hindmost xs) Nothing fr v ∙ sym (rw none way))

@@ -46,19 +46,19 @@ since_fewer f n (x ∷ xs) = elim (cases_Bool (eqb x n)) [
   | inr e ↦ rw e (omega (arith, since_fewer f n xs, length-append (f x) (flat_map f xs)))
 ]
 
-pub span_bound : (w : ℕ) (f : Pairs) (room tally : ℕ) (i : Inside) → Whole w f room tally i → (a b n : ℕ) → length (between a b (onward i.table i.pool n)) ≤ 512
+pub span_bound : (w : ℕ) (f : Pairs) (room tally : ℕ) (i : Inside) → Whole w f room tally i → (a b n : ℕ) → length (between a b (onward i.grove.table i.grove.pool n)) ≤ 512
 unfolding onward
 span_bound w f room tally i wh a b n =
-    let items = items_of i.table i.pool in
-    let order = order_of i.table in
+    let items = items_of i.grove.table i.grove.pool in
+    let order = order_of i.grove.table in
     let xs = flat_map items (since n order) in
     omega (
       arith,
       kept_short (λ (e : Entry). leb a e.key) (upto b xs),
       kept_short (λ (e : Entry). leb e.key b) xs,
       since_fewer items n order,
-      ap length (row_flat (rep_of i.table) items order),
-      total_flat (row_of i.table i.pool),
+      ap length (row_flat (rep_of i.grove.table) items order),
+      total_flat (row_of i.grove.table i.grove.pool),
       wh.buckets.few,
       wh.small,
     )
@@ -72,22 +72,22 @@ pub written_told : (ys ps qs : List Entry) (number fr : ℕ) → number ≡ leng
 written_told ys ps qs number fr en eq h = let e = le-ltb (length ps) (length ys) h in rw (e, en, eq) refl
 
 module _ (w : ℕ) (f : Pairs) (room tally : ℕ) (i : Inside) (big : 8 ≤ w) (wh : Whole w f room tally i) where
-  pub range_step : (a b : ℕ) (ps : List Entry) (n m : ℕ) (c : InRow (rep_of i.table) (order_of i.table) a m) (x : Answered) → misfit w (Range a b) ≡ None →
-      let ys = between a b (onward i.table i.pool m) in
-      let fr = searching w (map (rep_of i.table) (order_of i.table)) a in
+  pub range_step : (a b : ℕ) (ps : List Entry) (n m : ℕ) (c : InRow (rep_of i.grove.table) (order_of i.grove.table) a m) (x : Answered) → misfit w (Range a b) ≡ None →
+      let ys = between a b (onward i.grove.table i.grove.pool m) in
+      let fr = searching w (map (rep_of i.grove.table) (order_of i.grove.table)) a in
       told_by x ≡ writes (no_range (length ys) (length ps)) ys ps → x.answer.frames ≡ fr → x.answer.visits ≡ 0 → x.answer.rebuilding ≡ Unchanged →
       n < 2 ^ 64 → n ≡ raised tally x.answer.frames → Step w i.limit (state_of f tally i) (Range a b) ps x (state_of f n i)
   unfolding step visits
   range_step a b ps n m c x none told frames seen still h up =
-      let items = items_of i.table i.pool in
-      let is = range_served (rep_of i.table) items (tree_of i.table i.pool) (order_of i.table) a m c w i.limit b ps in
-      let all = onward_cut i.table i.pool c.pre m c.post c.is in
+      let items = items_of i.grove.table i.grove.pool in
+      let is = range_served (rep_of i.grove.table) items (tree_of i.grove.table i.grove.pool) (order_of i.grove.table) a m c w i.limit b ps in
+      let all = onward_cut i.grove.table i.grove.pool c.pre m c.post c.is in
       let told_all = subst (λ xs. told_by x ≡ writes (no_range (length (between a b xs)) (length ps)) (between a b xs) ps) all told in
-      let o : Obeys x (row_of i.table i.pool) (step w i.limit (Range a b) ps (row_of i.table i.pool)) =
+      let o : Obeys x (row_of i.grove.table i.grove.pool) (step w i.limit (Range a b) ps (row_of i.grove.table i.grove.pool)) =
       rw (none, is) (record { told = told_all; frames = frames; rebuilding = still; after = refl }) in
-      let v : x.answer.visits ≡ visits w (Range a b) (row_of i.table i.pool) (grove_of i.table i.pool) = seen ∙ sym (rw none refl) in
+      let v : x.answer.visits ≡ visits w (Range a b) (row_of i.grove.table i.grove.pool) (grove_of i.grove.table i.grove.pool) = seen ∙ sym (rw none refl) in
       step_made w i.limit big (state_of f tally i) (Range a b) ps x (state_of f n i) wh.buckets o
-      (record { notes = wh.notes; planted = planted i.table i.pool wh.forest; laid = laid w f i.table i.pool wh.trie; counts = h; visits = v; tally = up; still = λ _. (refl, refl) })
+      (record { notes = wh.notes; planted = planted i.grove.table i.grove.pool i.grove.forest; laid = laid w f i.grove.table i.grove.pool wh.trie; counts = h; visits = v; tally = up; still = λ _. (refl, refl) })
 
 -- keys that pass
 pub both_fit : (shut : Bool) (w a b : ℕ) → None ≡ bars shut w a b → misfit w (Range a b) ≡ None

@@ -12,7 +12,7 @@ use Rattle.buckets.specs.Tables.{rep_of, order_of}
 use Rattle.trie.specs.Sound.{Sound as TrieSound}
 use Rattle.trees.specs.Trees.{seen}
 use Rattle.trees.specs.Answers.{foremost}
-use Rattle.forest.specs.Forests.{Forest, items_of, tree_of, row_of, grove_of}
+use Rattle.forest.specs.Forests.{items_of, tree_of, row_of, grove_of}
 use Rattle.ordered.specs.declared.calls.Call.TheVariants.{Remove}
 use Rattle.ordered.specs.declared.refusal.Refusal.TheVariants.{Absent}
 use Rattle.ordered.specs.Numbers.{rebuilt}
@@ -45,33 +45,33 @@ rebuilt_once MergeSplit = omega arith
 
 module _ (w : ℕ) (f : Pairs) (room tally : ℕ) (i : Inside) (big : 8 ≤ w) (wh : Whole w f room tally i) (k : ℕ) (h : k < 2 ^ w) where
   abbrev s : List Bucket
-  s = row_of i.table i.pool
+  s = row_of i.grove.table i.grove.pool
 
   abbrev n : ℕ
-  n = holder (rep_of i.table) (order_of i.table) k
+  n = holder (rep_of i.grove.table) (order_of i.grove.table) k
 
   abbrev fr : ℕ
-  fr = searching w (map (rep_of i.table) (order_of i.table)) k
+  fr = searching w (map (rep_of i.grove.table) (order_of i.grove.table)) k
 
   abbrev v : ℕ
-  v = seen k (tree_of i.table i.pool n)
+  v = seen k (tree_of i.grove.table i.grove.pool n)
 
   abbrev xs : List Entry
-  xs = at k (items_of i.table i.pool n)
+  xs = at k (items_of i.grove.table i.grove.pool n)
 
-  c : InRow (rep_of i.table) (order_of i.table) k n
-  c = held_in w f i.table wh.trie k
+  c : InRow (rep_of i.grove.table) (order_of i.grove.table) k n
+  c = held_in w f i.grove.table wh.trie k
 
-  way : visits w (Remove k) s (grove_of i.table i.pool) ≡ v
+  way : visits w (Remove k) s (grove_of i.grove.table i.grove.pool) ≡ v
   unfolding visits
-  way = rw (fits_large w k h) (find_path (rep_of i.table) (items_of i.table i.pool) (tree_of i.table i.pool) (order_of i.table) k n c)
+  way = rw (fits_large w k h) (find_path (rep_of i.grove.table) (items_of i.grove.table i.grove.pool) (tree_of i.grove.table i.grove.pool) (order_of i.grove.table) k n c)
 
   -- ---- absent
   pub absent_step : (m : ℕ) → xs ≡ [] → m < 2 ^ 64 → m ≡ raised tally fr →
       Step w i.limit (state_of f tally i) (Remove k) [] (record { answer = no_of Absent fr v; places = [] }) (state_of f m i)
   unfolding step removed
   absent_step m none b up =
-      let is = remove_served (rep_of i.table) (items_of i.table i.pool) (tree_of i.table i.pool) (order_of i.table) k n c w i.limit [] in
+      let is = remove_served (rep_of i.grove.table) (items_of i.grove.table i.grove.pool) (tree_of i.grove.table i.grove.pool) (order_of i.grove.table) k n c w i.limit [] in
       quiet_step w f room tally i big wh (Remove k) [] (record { answer = no_of Absent fr v; places = [] }) m b up
       (rw (fits_large w k h, is, none) (record { told = refl; frames = refl; rebuilding = refl; after = refl })) (sym way)
 
@@ -80,11 +80,11 @@ module _ (w : ℕ) (f : Pairs) (room tally : ℕ) (i : Inside) (big : 8 ≤ w) (
     abbrev ch : Change
     ch = shrunk w (place k s) (without_entry k s)
 
-    here_was : (here (place k s) s).items ≡ items_of i.table i.pool n
-    here_was = here_items (rep_of i.table) (items_of i.table i.pool) (tree_of i.table i.pool) (order_of i.table) k n c
+    here_was : (here (place k s) s).items ≡ items_of i.grove.table i.grove.pool n
+    here_was = here_items (rep_of i.grove.table) (items_of i.grove.table i.grove.pool) (tree_of i.grove.table i.grove.pool) (order_of i.grove.table) k n c
 
     at_place : place k s ≡ length c.pre
-    at_place = placed (rep_of i.table) (items_of i.table i.pool) (tree_of i.table i.pool) (order_of i.table) k n c
+    at_place = placed (rep_of i.grove.table) (items_of i.grove.table i.grove.pool) (tree_of i.grove.table i.grove.pool) (order_of i.grove.table) k n c
 
     -- what the rules say of the bucket at place l
     abbrev taken : ℕ → RuleStep
@@ -93,7 +93,7 @@ module _ (w : ℕ) (f : Pairs) (room tally : ℕ) (i : Inside) (big : 8 ≤ w) (
     rules : step w i.limit (Remove k) [] s ≡ alters (answered e []) fr ch
     unfolding step removed
     rules =
-        let is = remove_served (rep_of i.table) (items_of i.table i.pool) (tree_of i.table i.pool) (order_of i.table) k n c w i.limit [] in
+        let is = remove_served (rep_of i.grove.table) (items_of i.grove.table i.grove.pool) (tree_of i.grove.table i.grove.pool) (order_of i.grove.table) k n c w i.limit [] in
         let open_way : step w i.limit (Remove k) [] s ≡ taken (length c.pre) = rw (fits_large w k h, is, some) refl in
         open_way ∙ (ap taken (sym at_place) ∙ ap (λ (x : Entry). alters (answered x []) fr ch) (ap (λ (l : List Entry). first (at k l)) here_was ∙ ap first some))
 
@@ -110,20 +110,20 @@ module _ (w : ℕ) (f : Pairs) (room tally : ℕ) (i : Inside) (big : 8 ≤ w) (
         let m : fr + ch.frames ≤ most w + 4 * (w + 1) * rebuilt ch.rebuilding = subst (λ (t : RuleStep). t.reply.frames ≤ most w + 4 * (w + 1) * rebuilt t.reply.rebuilding) rules g in
         omega (arith, m, mul-le-mul_left (4 * (w + 1)) (rebuilt_once ch.rebuilding), mul-one (4 * (w + 1)))
 
-    module _ (j : Inside) (g : Pairs) (room' m : ℕ) (r : Rebuilt) (trie : TrieSound w g j.table) (forest : Forest j.table j.pool) (le : Left w i k r (row_of j.table j.pool))
+    module _ (j : Inside) (g : Pairs) (room' m : ℕ) (r : Rebuilt) (trie : TrieSound w g j.grove.table) (le : Left w i k r (row_of j.grove.table j.grove.pool))
         (lim : j.limit ≡ i.limit) (cnt : j.count + 1 ≡ i.count) (rm : room' ≡ room) where
-      flat_after : flat (row_of j.table j.pool) ≡ without k (flat s)
+      flat_after : flat (row_of j.grove.table j.grove.pool) ≡ without k (flat s)
       flat_after =
           ap flat le.row
           ∙ (ap (λ (t : RuleStep). flat t.after) (sym rules)
           ∙ ((agrees w i.limit big s wh.buckets (Remove k) []).list ∙ listed_after))
 
-      one_less_held : total (row_of j.table j.pool) + 1 ≡ total s
+      one_less_held : total (row_of j.grove.table j.grove.pool) + 1 ≡ total s
       one_less_held =
-          ap (λ x. x + 1) (total_flat (row_of j.table j.pool) ∙ ap length flat_after)
+          ap (λ x. x + 1) (total_flat (row_of j.grove.table j.grove.pool) ∙ ap length flat_after)
           ∙ (without_size (lowest (2 ^ w) s) (2 ^ w) k (flat s) (rise_flat (2 ^ w) s wh.buckets.spread) (ap filled held) ∙ sym (total_flat s))
 
-      all_noted : AllByRecursion (λ (x : Entry). x.note < 2 ^ 64) (flat (row_of j.table j.pool))
+      all_noted : AllByRecursion (λ (x : Entry). x.note < 2 ^ 64) (flat (row_of j.grove.table j.grove.pool))
       all_noted =
           let P : Entry → Type 0 = λ x. x.note < 2 ^ 64 in
           subst (AllByRecursion P) (sym flat_after) (All-append P (below k (flat s)) (above k (flat s)) (all_kept_by _ P (flat s) wh.notes) (all_kept_by _ P (flat s) wh.notes))
@@ -131,8 +131,7 @@ module _ (w : ℕ) (f : Pairs) (room tally : ℕ) (i : Inside) (big : 8 ≤ w) (
       pub remove_whole : Whole w g room' m j
       remove_whole = record {
         trie = trie;
-        forest = forest;
-        buckets = subst (λ l. BucketsSound w l (row_of j.table j.pool)) (sym lim) (subst (BucketsSound w i.limit) (sym le.row) (subst (λ (t : RuleStep). BucketsSound w i.limit t.after) rules (agrees w i.limit big s wh.buckets (Remove k) []).sound));
+        buckets = subst (λ l. BucketsSound w l (row_of j.grove.table j.grove.pool)) (sym lim) (subst (BucketsSound w i.limit) (sym le.row) (subst (λ (t : RuleStep). BucketsSound w i.limit t.after) rules (agrees w i.limit big s wh.buckets (Remove k) []).sound));
         notes = all_noted;
         counted = omega (arith, cnt, wh.counted, one_less_held);
         small = subst (λ l. l ≤ 512) (sym lim) wh.small;
@@ -143,10 +142,10 @@ module _ (w : ℕ) (f : Pairs) (room tally : ℕ) (i : Inside) (big : 8 ≤ w) (
           Step w i.limit (state_of f tally i) (Remove k) [] (record { answer = record { outcome = Ok e; number = 0; frames = fr + r.frames; visits = v; rebuilding = r.rebuilding }; places = [] }) (state_of g m j)
       remove_step b up =
           let a : Answered = record { answer = record { outcome = Ok e; number = 0; frames = fr + r.frames; visits = v; rebuilding = r.rebuilding }; places = [] } in
-          let o : Obeys a (row_of j.table j.pool) (alters (answered e []) fr ch) = record { told = refl; frames = ap (λ x. fr + x) le.frames; rebuilding = le.rebuilding; after = le.row } in
+          let o : Obeys a (row_of j.grove.table j.grove.pool) (alters (answered e []) fr ch) = record { told = refl; frames = ap (λ x. fr + x) le.frames; rebuilding = le.rebuilding; after = le.row } in
           step_made w i.limit big (state_of f tally i) (Remove k) [] a (state_of g m j) wh.buckets
-          (subst (Obeys a (row_of j.table j.pool)) (sym rules) o)
-          (record { notes = all_noted; planted = planted j.table j.pool forest; laid = laid w g j.table j.pool trie; counts = b; visits = sym way; tally = omega (arith, up); still = λ z. absurd (omega arith) })
+          (subst (Obeys a (row_of j.grove.table j.grove.pool)) (sym rules) o)
+          (record { notes = all_noted; planted = planted j.grove.table j.grove.pool j.grove.forest; laid = laid w g j.grove.table j.grove.pool trie; counts = b; visits = sym way; tally = omega (arith, up); still = λ z. absurd (omega arith) })
 
 -- ---- what a look for the key tells
 pub found_first : (xs : List Entry) (e : Entry) → foremost xs ≡ Some e → (es : List Entry) × (xs ≡ e ∷ es)

@@ -43,7 +43,7 @@ lawful_as true w f room tally i h so = record {
   wide = refl;
 }
 lawful_as false w f room tally i h so =
-    view_lawful w i.limit (row_of i.table i.pool) so.buckets tally f (λ c. visits w c (row_of i.table i.pool) (grove_of i.table i.pool)) h so.small so.notes
+    view_lawful w i.limit (row_of i.grove.table i.grove.pool) so.buckets tally f (λ c. visits w c (row_of i.grove.table i.grove.pool) (grove_of i.grove.table i.grove.pool)) h so.small so.notes
 
 -- ---- a call on a shut index
 closed_step : (w : ℕ) (f f' : Pairs) (tally tally' : ℕ) (i i' : Inside) (c : Call) (ps : List Entry) (r : Answer) (qs : List Entry) → tally < 2 ^ 64 →
@@ -77,10 +77,10 @@ module _ (w : ℕ) (big : 8 ≤ w) (small : w ≤ 60) (f : Pairs) (room tally : 
     (c : Call) (ps : List Entry) (r : Answer) (qs : List Entry) (f' : Pairs) (tally' : ℕ) (i' : Inside)
     (st : Step w i.limit (state_of f tally i) c ps (record { answer = r; places = qs }) (state_of f' tally' i')) where
   abbrev s : List Bucket
-  s = row_of i.table i.pool
+  s = row_of i.grove.table i.grove.pool
 
   abbrev s' : List Bucket
-  s' = row_of i'.table i'.pool
+  s' = row_of i'.grove.table i'.grove.pool
 
   abbrev seen_on : List Bucket → List Tree → Call → ℕ
   seen_on x ts d = visits w d x ts
@@ -88,7 +88,7 @@ module _ (w : ℕ) (big : 8 ≤ w) (small : w ≤ 60) (f : Pairs) (room tally : 
   told_so : (record { outcome = r.outcome; number = r.number; places = qs }) ≡ (step w i.limit c ps s).reply.told
   told_so = st.told ∙ sym (agrees w i.limit big s wh.buckets c ps).told
 
-  replied : Replied r (visits w c s (grove_of i.table i.pool)) (step w i.limit c ps s).reply
+  replied : Replied r (visits w c s (grove_of i.grove.table i.grove.pool)) (step w i.limit c ps s).reply
   replied = record {
     outcome = ap (λ (t : Told). t.outcome) told_so;
     number = ap (λ (t : Told). t.number) told_so;
@@ -97,20 +97,20 @@ module _ (w : ℕ) (big : 8 ≤ w) (small : w ≤ 60) (f : Pairs) (room tally : 
     rebuilding = st.rebuilding;
   }
 
-  few_visits : visits w c s (grove_of i.table i.pool) ≤ 20
+  few_visits : visits w c s (grove_of i.grove.table i.grove.pool) ≤ 20
   few_visits = omega (arith, visits_most w i.limit big small (state_of f tally i) (sound_state w f room tally i h wh) c, at_most_ten (5 * half w))
 
-  quiet : changed c r.outcome ≡ 0 → (f' ≡ f) × (seen_on s' (grove_of i'.table i'.pool) ≡ seen_on s (grove_of i.table i.pool))
+  quiet : changed c r.outcome ≡ 0 → (f' ≡ f) × (seen_on s' (grove_of i'.grove.table i'.grove.pool) ≡ seen_on s (grove_of i.grove.table i.grove.pool))
   quiet z =
       let y = st.still z in
       let b : s' ≡ s = st.buckets ∙ ((agrees w i.limit big s wh.buckets c ps).still (sym (ap (λ (t : Told). changed c t.outcome) told_so) ∙ z)).1 in
-      (y.0, ap (λ x. seen_on x (grove_of i'.table i'.pool)) b ∙ ap (seen_on s) y.1)
+      (y.0, ap (λ x. seen_on x (grove_of i'.grove.table i'.grove.pool)) b ∙ ap (seen_on s) y.1)
 
   pub open_step : i'.limit ≡ i.limit → Stepped (open_view w f tally i) c ps r qs (open_view w f' tally' i')
   open_step l =
       let v = open_view w f tally i in
-      let vis = seen_on s' (grove_of i'.table i'.pool) in
-      let base = view_stepped w i.limit s wh.buckets big small c ps r tally tally' f f' (seen_on s (grove_of i.table i.pool)) vis replied few_visits st.tally quiet in
+      let vis = seen_on s' (grove_of i'.grove.table i'.grove.pool) in
+      let base = view_stepped w i.limit s wh.buckets big small c ps r tally tally' f f' (seen_on s (grove_of i.grove.table i.grove.pool)) vis replied few_visits st.tally quiet in
       let moved = subst (λ x. Stepped v c ps r (step w i.limit c ps s).reply.told.places (view_of w i.limit tally' f' vis x)) (sym st.buckets) base in
       let limited = subst (λ x. Stepped v c ps r (step w i.limit c ps s).reply.told.places (view_of w x tally' f' vis s')) (sym l) moved in
       subst (λ x. Stepped v c ps r x (open_view w f' tally' i')) (sym (ap (λ (t : Told). t.places) told_so)) limited

@@ -15,6 +15,6 @@ abbrev pub with_entry : Entry → List Bucket → List Bucket
 with_entry e s = slice_set s (place e.key s) (with_items (here (place e.key s) s) (put e (here (place e.key s) s).items))
 
 pub record Entered (w : ℕ) (i : Inside) (e : Entry) (r : Rebuilt) (s' : List Bucket) : Type 0 where
-  pub row : s' ≡ (grown w (place e.key (row_of i.table i.pool)) (with_entry e (row_of i.table i.pool))).after
-  pub frames : r.frames ≡ (grown w (place e.key (row_of i.table i.pool)) (with_entry e (row_of i.table i.pool))).frames
-  pub rebuilding : r.rebuilding ≡ (grown w (place e.key (row_of i.table i.pool)) (with_entry e (row_of i.table i.pool))).rebuilding
+  pub row : s' ≡ (grown w (place e.key (row_of i.grove.table i.grove.pool)) (with_entry e (row_of i.grove.table i.grove.pool))).after
+  pub frames : r.frames ≡ (grown w (place e.key (row_of i.grove.table i.grove.pool)) (with_entry e (row_of i.grove.table i.grove.pool))).frames
+  pub rebuilding : r.rebuilding ≡ (grown w (place e.key (row_of i.grove.table i.grove.pool)) (with_entry e (row_of i.grove.table i.grove.pool))).rebuilding

@@ -25,4 +25,4 @@ pub record Did (r : Rebuilt) (s' : List Bucket) (c : Change) : Type 0 where
   pub rebuilding : r.rebuilding ≡ c.rebuilding
 
 abbrev pub Left : ℕ → Inside → ℕ → Rebuilt → List Bucket → Type 0
-Left w i k r s' = Did r s' (shrunk w (place k (row_of i.table i.pool)) (without_entry k (row_of i.table i.pool)))
+Left w i k r s' = Did r s' (shrunk w (place k (row_of i.grove.table i.grove.pool)) (without_entry k (row_of i.grove.table i.grove.pool)))

@@ -8,3 +8,4 @@ pub mod Spans
 pub mod Views
 pub mod Whole
 pub mod Props
+pub mod Looks

@@ -10,8 +10,8 @@ use Rattle.forest.specs.Forests.{row_of, grove_of}
 use Rattle.inside.specs.declared.Inside.{Inside}
 
 pub record Bare (i : Inside) : Type 0 where
-  pub buckets : row_of i.table i.pool ≡ new
-  pub trees : grove_of i.table i.pool ≡ leaf ∷ []
+  pub buckets : row_of i.grove.table i.grove.pool ≡ new
+  pub trees : grove_of i.grove.table i.grove.pool ≡ leaf ∷ []
   pub count : i.count ≡ 0
 
 pub record Made (w most before : ℕ) (i : Inside) (after frames : ℕ) : Type 0 where

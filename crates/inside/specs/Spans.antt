@@ -25,4 +25,4 @@ abbrev pub over : List Entry → List Entry → List Entry
 over ys ps = ys ++ drop (length ys) ps
 
 abbrev pub kept_in : Inside → List Entry
-kept_in i = cond i.shut [] (flat (row_of i.table i.pool))
+kept_in i = cond i.shut [] (flat (row_of i.grove.table i.grove.pool))

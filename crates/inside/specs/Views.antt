@@ -25,7 +25,7 @@ closed_view w f tally = record {
 }
 
 abbrev pub open_view : ℕ → Pairs → ℕ → Inside → View
-open_view w f tally i = view_of w i.limit tally f (λ c. visits w c (row_of i.table i.pool) (grove_of i.table i.pool)) (row_of i.table i.pool)
+open_view w f tally i = view_of w i.limit tally f (λ c. visits w c (row_of i.grove.table i.grove.pool) (grove_of i.grove.table i.grove.pool)) (row_of i.grove.table i.grove.pool)
 
 abbrev pub seen_as : Bool → ℕ → Pairs → ℕ → Inside → View
 seen_as true w f tally i = closed_view w f tally

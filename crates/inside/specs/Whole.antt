@@ -1,7 +1,7 @@
 -- What an index keeps true of its parts, and its state.
 --
 --   state_of    the state that the laws over runs speak of
---   Whole       an index that is not shut: dictionary, table and trees tie in, and the rules of the buckets hold
+--   Whole       an index that is not shut: dictionary and table tie in, and the rules of the buckets hold
 --   Sound       whatever is asked of an index: nothing of one that is shut
 --   closed      what a shut index answers
 --   Does        what a call does: nothing where the index is shut, otherwise a step
@@ -15,20 +15,19 @@ use Rattle.ordered.specs.declared.refusal.Refusal.TheVariants.{Shut}
 use Rattle.rules.specs.Buckets.{flat, total}
 use Rattle.rules.specs.Buckets.{Sound as BucketsSound}
 use Rattle.trie.specs.Sound.{Sound as TrieSound}
-use Rattle.forest.specs.Forests.{Forest, row_of, grove_of}
+use Rattle.forest.specs.Forests.{row_of, grove_of}
 use Rattle.runs.specs.States.{State, Answered, Step}
 use Rattle.inside.specs.declared.Inside.{Inside}
 use Rattle.ordered.specs.Answers.{no_of}
 
 abbrev pub state_of : Pairs → ℕ → Inside → State
-state_of f n i = record { buckets = row_of i.table i.pool; trees = grove_of i.table i.pool; pairs = f; tally = n }
+state_of f n i = record { buckets = row_of i.grove.table i.grove.pool; trees = grove_of i.grove.table i.grove.pool; pairs = f; tally = n }
 
 pub record Whole (w : ℕ) (f : Pairs) (room tally : ℕ) (i : Inside) : Type 0 where
-  pub trie : TrieSound w f i.table
-  pub forest : Forest i.table i.pool
-  pub buckets : BucketsSound w i.limit (row_of i.table i.pool)
-  pub notes : AllByRecursion (λ (e : Entry). e.note < 2 ^ 64) (flat (row_of i.table i.pool))
-  pub counted : i.count ≡ total (row_of i.table i.pool)
+  pub trie : TrieSound w f i.grove.table
+  pub buckets : BucketsSound w i.limit (row_of i.grove.table i.grove.pool)
+  pub notes : AllByRecursion (λ (e : Entry). e.note < 2 ^ 64) (flat (row_of i.grove.table i.grove.pool))
+  pub counted : i.count ≡ total (row_of i.grove.table i.grove.pool)
   pub small : i.limit ≤ 512
   pub fits : needed w i.limit ≤ room
 

@@ -2,16 +2,14 @@
 // makes of it. The fields are public for the crates that work on it; an index keeps its own private.
 #![tactic(auto)]
 
-use avl::Pool;
-use buckets::Table;
+use forest::Grove;
 use ordered::Rebuilding;
 
 // The buckets with their trees, how many entries may stand and how many do, and whether the index is
 // shut. A shut index has no entry and lets its dictionary be.
 #[derive(Drop)]
 pub struct Inside {
-    pub table: Table,
-    pub pool: Pool,
+    pub grove: Grove,
     pub limit: u16,
     pub count: u16,
     pub shut: bool,

@@ -6,3 +6,4 @@ pub mod Runs
 pub mod Laws
 pub mod Views
 pub mod Tracks
+pub mod Props

@@ -3,3 +3,4 @@ pub mod Trees
 pub mod Pools
 pub mod Answers
 pub mod Heights
+pub mod Props

@@ -5,14 +5,13 @@ ghost use Rattle.entry.specs.Lists.{at};
 ghost use Rattle.buckets.specs.Tables.{rep_of, order_of};
 ghost use Rattle.links.specs.Orders.{holder};
 ghost use Rattle.trie.specs.Sound.{Sound as TrieSound};
-ghost use Rattle.forest.specs.Forests.{Forest, items_of, row_of};
+ghost use Rattle.forest.specs.Forests.{items_of, row_of};
 ghost use Rattle.inside.specs.Changing.{Entered};
 ghost use Rattle.inside.specs.Whole.{Whole};
 
 use crate::rebuild::split;
 use dictionary::Dictionary;
 use entry::Entry;
-use forest::grow::grow;
 use inside::{Inside, Rebuilt};
 use key::Key;
 use key::sizes::half_width;
@@ -27,21 +26,20 @@ pub fn enter<K: Key, D: Dictionary>(
 ) -> Rebuilt
     requires whole { Whole K.Key.width (D.Dictionary.pairs d.old) (D.Dictionary.room d.old) (D.Dictionary.frames d.old) inside.old }
     requires fits { new.key < 2 ^ K.Key.width }
-    requires place { number ≡ holder (rep_of inside.old.table) (order_of inside.old.table) new.key }
-    requires held { among number (order_of inside.old.table) ≡ true }
-    requires new { at new.key (items_of inside.old.table inside.old.pool number) ≡ [] }
+    requires place { number ≡ holder (rep_of inside.old.grove.table) (order_of inside.old.grove.table) new.key }
+    requires held { among number (order_of inside.old.grove.table) ≡ true }
+    requires new { at new.key (items_of inside.old.grove.table inside.old.grove.pool number) ≡ [] }
     requires free { inside.old.count < inside.old.limit }
-    ensures trie { TrieSound K.Key.width (D.Dictionary.pairs d.new) inside.new.table }
-    ensures forest { Forest inside.new.table inside.new.pool }
-    ensures entered { Entered K.Key.width inside.old new result (row_of inside.new.table inside.new.pool) }
+    ensures trie { TrieSound K.Key.width (D.Dictionary.pairs d.new) inside.new.grove.table }
+    ensures entered { Entered K.Key.width inside.old new result (row_of inside.new.grove.table inside.new.grove.pool) }
     ensures few { result.frames ≤ 2 * (K.Key.width + 1) }
     ensures tally { D.Dictionary.frames d.new ≡ raised (D.Dictionary.frames d.old) result.frames }
     ensures room { D.Dictionary.room d.new ≡ D.Dictionary.room d.old }
     ensures rest { (inside.new.limit ≡ inside.old.limit) × (inside.new.count ≡ inside.old.count + 1) × (inside.new.shut ≡ inside.old.shut) }
 {
-    grow(&mut inside.table, &mut inside.pool, number, new);
+    inside.grove.grow(number, new);
     inside.count += 1;
-    if inside.table.size(number) as u32 <= 5 * half_width::<K>() {
+    if inside.grove.table.size(number) as u32 <= 5 * half_width::<K>() {
         return Rebuilt {
             frames: 0,
             rebuilding: Rebuilding::Unchanged,

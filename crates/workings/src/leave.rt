@@ -5,14 +5,13 @@ ghost use Rattle.entry.specs.Lists.{at, filled};
 ghost use Rattle.buckets.specs.Tables.{rep_of, order_of, next_of};
 ghost use Rattle.links.specs.Orders.{holder};
 ghost use Rattle.trie.specs.Sound.{Sound as TrieSound};
-ghost use Rattle.forest.specs.Forests.{Forest, items_of, row_of};
+ghost use Rattle.forest.specs.Forests.{items_of, row_of};
 ghost use Rattle.rules.specs.Buckets.{Spread};
 ghost use Rattle.inside.specs.Leaving.{mended, Did, Left};
 ghost use Rattle.inside.specs.Whole.{Whole};
 
 use crate::rebuild::{merge, split};
 use dictionary::Dictionary;
-use forest::shrink::shrink;
 use inside::{Inside, Rebuilt};
 use key::Key;
 use key::sizes::half_width;
@@ -20,21 +19,19 @@ use ordered::Rebuilding;
 
 // Merges a bucket with the one behind it, and splits the two again where they hold more than 4m entries.
 fn mend<K: Key, D: Dictionary>(d: &mut D, inside: &mut Inside, left: u16) -> Rebuilt
-    requires trie { TrieSound K.Key.width (D.Dictionary.pairs d.old) inside.old.table }
-    requires forest { Forest inside.old.table inside.old.pool }
-    requires spread { Spread (2 ^ K.Key.width) (row_of inside.old.table inside.old.pool) }
-    requires stands { among left (order_of inside.old.table) ≡ true }
-    requires behind { next_of inside.old.table left ≢ 0 }
-    requires room { (K.Key.width + 1) * length (order_of inside.old.table) ≤ D.Dictionary.room d.old }
-    ensures trie { TrieSound K.Key.width (D.Dictionary.pairs d.new) inside.new.table }
-    ensures forest { Forest inside.new.table inside.new.pool }
-    ensures mended { (pre : List ℕ) (other : ℕ) (post : List ℕ) → order_of inside.old.table ≡ pre ++ left ∷ other ∷ post → Did result (row_of inside.new.table inside.new.pool) (mended K.Key.width (length pre) (row_of inside.old.table inside.old.pool)) }
+    requires trie { TrieSound K.Key.width (D.Dictionary.pairs d.old) inside.old.grove.table }
+    requires spread { Spread (2 ^ K.Key.width) (row_of inside.old.grove.table inside.old.grove.pool) }
+    requires stands { among left (order_of inside.old.grove.table) ≡ true }
+    requires behind { next_of inside.old.grove.table left ≢ 0 }
+    requires room { (K.Key.width + 1) * length (order_of inside.old.grove.table) ≤ D.Dictionary.room d.old }
+    ensures trie { TrieSound K.Key.width (D.Dictionary.pairs d.new) inside.new.grove.table }
+    ensures mended { (pre : List ℕ) (other : ℕ) (post : List ℕ) → order_of inside.old.grove.table ≡ pre ++ left ∷ other ∷ post → Did result (row_of inside.new.grove.table inside.new.grove.pool) (mended K.Key.width (length pre) (row_of inside.old.grove.table inside.old.grove.pool)) }
     ensures tally { D.Dictionary.frames d.new ≡ raised (D.Dictionary.frames d.old) result.frames }
     ensures room { D.Dictionary.room d.new ≡ D.Dictionary.room d.old }
     ensures rest { (inside.new.limit ≡ inside.old.limit) × (inside.new.count ≡ inside.old.count) × (inside.new.shut ≡ inside.old.shut) }
 {
-    let other = inside.table.next(left);
-    let both = inside.table.size(left) as u32 + inside.table.size(other) as u32;
+    let other = inside.grove.table.next(left);
+    let both = inside.grove.table.size(left) as u32 + inside.grove.table.size(other) as u32;
     let most = 4 * half_width::<K>();
     let frames = merge::<K, D>(d, inside, left);
     if both <= most {
@@ -60,19 +57,20 @@ pub fn leave<K: Key, D: Dictionary>(
 ) -> Rebuilt
     requires whole { Whole K.Key.width (D.Dictionary.pairs d.old) (D.Dictionary.room d.old) (D.Dictionary.frames d.old) inside.old }
     requires fits { key < 2 ^ K.Key.width }
-    requires place { number ≡ holder (rep_of inside.old.table) (order_of inside.old.table) key }
-    requires held { among number (order_of inside.old.table) ≡ true }
-    requires some { filled (at key (items_of inside.old.table inside.old.pool number)) ≡ true }
-    ensures trie { TrieSound K.Key.width (D.Dictionary.pairs d.new) inside.new.table }
-    ensures forest { Forest inside.new.table inside.new.pool }
-    ensures left { Left K.Key.width inside.old key result (row_of inside.new.table inside.new.pool) }
+    requires place { number ≡ holder (rep_of inside.old.grove.table) (order_of inside.old.grove.table) key }
+    requires held { among number (order_of inside.old.grove.table) ≡ true }
+    requires some { filled (at key (items_of inside.old.grove.table inside.old.grove.pool number)) ≡ true }
+    ensures trie { TrieSound K.Key.width (D.Dictionary.pairs d.new) inside.new.grove.table }
+    ensures left { Left K.Key.width inside.old key result (row_of inside.new.grove.table inside.new.grove.pool) }
     ensures tally { D.Dictionary.frames d.new ≡ raised (D.Dictionary.frames d.old) result.frames }
     ensures room { D.Dictionary.room d.new ≡ D.Dictionary.room d.old }
     ensures rest { (inside.new.limit ≡ inside.old.limit) × (inside.new.count + 1 ≡ inside.old.count) × (inside.new.shut ≡ inside.old.shut) }
 {
-    shrink(&mut inside.table, &mut inside.pool, number, key);
+    inside.grove.shrink(number, key);
     inside.count -= 1;
-    if inside.table.size(number) as u32 >= half_width::<K>() || inside.table.count() < 2 {
+    if inside.grove.table.size(number) as u32 >= half_width::<K>()
+        || inside.grove.table.count() < 2
+    {
         return Rebuilt {
             frames: 0,
             rebuilding: Rebuilding::Unchanged,
@@ -81,7 +79,7 @@ pub fn leave<K: Key, D: Dictionary>(
     let left = if number == 0 {
         0
     } else {
-        inside.table.prev(number)
+        inside.grove.table.prev(number)
     };
     mend::<K, D>(d, inside, left)
 }

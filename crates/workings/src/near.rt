@@ -5,26 +5,24 @@
 ghost use Rattle.std.specs.Prelude.{◌≡◌, ℕ, true, List, ◌∷◌, ◌++◌};
 ghost use Rattle.dictionary.specs.Pairs.{among};
 ghost use Rattle.buckets.specs.Tables.{order_of};
-ghost use Rattle.forest.specs.Forests.{Forest};
 ghost use Rattle.inside.specs.Near.{Above, Below};
 
-use inside::Inside;
+use forest::Grove;
 use trees::Found;
 
 // The lowest entry at or above a key, from its bucket on.
-pub fn next_from(inside: &Inside, number: u16, key: u64) -> Found
-    requires forest { Forest inside.now.table inside.now.pool }
-    requires held { among number (order_of inside.now.table) ≡ true }
-    ensures { (pre post : List ℕ) → order_of inside.now.table ≡ pre ++ number ∷ post → Above result inside.now.table inside.now.pool number key post }
+pub fn next_from(grove: &Grove, number: u16, key: u64) -> Found
+    requires { among number (order_of grove.now.table) ≡ true }
+    ensures { (pre post : List ℕ) → order_of grove.now.table ≡ pre ++ number ∷ post → Above result grove.now.table grove.now.pool number key post }
 {
-    let root = inside.table.root(number);
-    let here = trees::next(&inside.pool.nodes, root, key);
-    let behind = inside.table.next(number);
+    let root = grove.table.root(number);
+    let here = trees::next(&grove.pool.nodes, root, key);
+    let behind = grove.table.next(number);
     if here.entry.is_some() || behind == 0 {
         return here;
     }
-    let other = inside.table.root(behind);
-    let there = trees::first_entry(&inside.pool.nodes, other);
+    let other = grove.table.root(behind);
+    let there = trees::first_entry(&grove.pool.nodes, other);
     Found {
         entry: there.entry,
         visits: here.visits + there.visits,
@@ -32,19 +30,18 @@ pub fn next_from(inside: &Inside, number: u16, key: u64) -> Found
 }
 
 // The highest entry at or below a key, from its bucket back.
-pub fn last_from(inside: &Inside, number: u16, key: u64) -> Found
-    requires forest { Forest inside.now.table inside.now.pool }
-    requires held { among number (order_of inside.now.table) ≡ true }
-    ensures { (pre post : List ℕ) → order_of inside.now.table ≡ pre ++ number ∷ post → Below result inside.now.table inside.now.pool number key pre }
+pub fn last_from(grove: &Grove, number: u16, key: u64) -> Found
+    requires { among number (order_of grove.now.table) ≡ true }
+    ensures { (pre post : List ℕ) → order_of grove.now.table ≡ pre ++ number ∷ post → Below result grove.now.table grove.now.pool number key pre }
 {
-    let root = inside.table.root(number);
-    let here = trees::last(&inside.pool.nodes, root, key);
+    let root = grove.table.root(number);
+    let here = trees::last(&grove.pool.nodes, root, key);
     if here.entry.is_some() || number == 0 {
         return here;
     }
-    let before = inside.table.prev(number);
-    let other = inside.table.root(before);
-    let there = trees::last_entry(&inside.pool.nodes, other);
+    let before = grove.table.prev(number);
+    let other = grove.table.root(before);
+    let there = trees::last_entry(&grove.pool.nodes, other);
     Found {
         entry: there.entry,
         visits: here.visits + there.visits,

@@ -8,7 +8,6 @@ use dictionary::Dictionary;
 use entry::Entry;
 use key::Key;
 use ordered::{Answer, Refusal};
-use trie::locate;
 use workings::enter::enter;
 
 impl<K: Key, D: Dictionary> YFast<K, D> {
@@ -21,22 +20,20 @@ impl<K: Key, D: Dictionary> YFast<K, D> {
         if let Err(refusal) = self.admits(key, key) {
             return Answer::refused(refusal, 0, 0);
         }
-        let at = locate::<K, D>(&mut self.dictionary, &self.inside.table, key);
-        let root = self.inside.table.root(at.number);
-        let found = trees::find(&self.inside.pool.nodes, root, key);
-        if found.entry.is_some() {
-            return Answer::refused(Refusal::Held, at.frames, found.visits);
+        let look = self.look(key);
+        if look.found.entry.is_some() {
+            return Answer::refused(Refusal::Held, look.frames, look.found.visits);
         }
         if self.inside.count >= self.inside.limit {
-            return Answer::refused(Refusal::Full, at.frames, found.visits);
+            return Answer::refused(Refusal::Full, look.frames, look.found.visits);
         }
         let new = Entry { key, note };
-        let change = enter::<K, D>(&mut self.dictionary, &mut self.inside, at.number, new);
+        let change = enter::<K, D>(&mut self.dictionary, &mut self.inside, look.number, new);
         Answer {
             outcome: Ok(new),
             number: 0,
-            frames: at.frames + change.frames,
-            visits: found.visits,
+            frames: look.frames + change.frames,
+            visits: look.found.visits,
             rebuilding: change.rebuilding,
         }
     }

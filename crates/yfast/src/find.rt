@@ -7,7 +7,6 @@ use crate::index::YFast;
 use dictionary::Dictionary;
 use key::Key;
 use ordered::{Answer, Refusal};
-use trie::locate;
 
 impl<K: Key, D: Dictionary> YFast<K, D> {
     pub fn find(&mut self, key: u64) -> Answer
@@ -18,9 +17,11 @@ impl<K: Key, D: Dictionary> YFast<K, D> {
         if let Err(refusal) = self.admits(key, key) {
             return Answer::refused(refusal, 0, 0);
         }
-        let at = locate::<K, D>(&mut self.dictionary, &self.inside.table, key);
-        let root = self.inside.table.root(at.number);
-        let found = trees::find(&self.inside.pool.nodes, root, key);
-        Answer::new(found.entry.ok_or(Refusal::Absent), at.frames, found.visits)
+        let look = self.look(key);
+        Answer::new(
+            look.found.entry.ok_or(Refusal::Absent),
+            look.frames,
+            look.found.visits,
+        )
     }
 }

@@ -19,8 +19,9 @@ impl<K: Key, D: Dictionary> YFast<K, D> {
         if let Err(refusal) = self.admits(key, key) {
             return Answer::refused(refusal, 0, 0);
         }
-        let at = locate::<K, D>(&mut self.dictionary, &self.inside.table, key);
-        let found = last_from(&self.inside, at.number, key);
+        let grove = &self.inside.grove;
+        let at = locate::<K, D>(&mut self.dictionary, &grove.table, key);
+        let found = last_from(grove, at.number, key);
         Answer::new(found.entry.ok_or(Refusal::Nothing), at.frames, found.visits)
     }
 }

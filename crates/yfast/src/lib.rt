@@ -11,6 +11,7 @@ mod find;
 pub mod index;
 mod last;
 mod list;
+mod look;
 pub mod make;
 pub mod meaning;
 mod next;

@@ -40,6 +40,6 @@ impl<K: Key, D: Dictionary> YFast<K, D> {
         if self.inside.shut {
             return;
         }
-        write_span(&self.inside, 0, 0, u64::MAX, places);
+        write_span(&self.inside.grove, 0, 0, u64::MAX, places);
     }
 }

@@ -6,9 +6,9 @@ ghost use Rattle.ordered.specs.Fitness.{fitness};
 ghost use Rattle.inside.specs.Making.{Bare, Made, Kept};
 
 use crate::index::YFast;
-use avl::Pool;
 use buckets::Table;
 use dictionary::Dictionary;
+use forest::Grove;
 use inside::Inside;
 use key::Key;
 use key::sizes::pairs_needed;
@@ -40,8 +40,7 @@ impl<K: Key, D: Dictionary> YFast<K, D> {
     {
         if fitness::<K, D>(limit, &dictionary).is_err() {
             let inside = Inside {
-                table: Table::new(),
-                pool: Pool::new(),
+                grove: Grove::new(Table::new()),
                 limit: 0,
                 count: 0,
                 shut: true,
@@ -53,8 +52,7 @@ impl<K: Key, D: Dictionary> YFast<K, D> {
             };
         }
         let inside = Inside {
-            table: trie::make::<K, D>(&mut dictionary),
-            pool: Pool::new(),
+            grove: Grove::new(trie::make::<K, D>(&mut dictionary)),
             limit: limit as u16,
             count: 0,
             shut: false,

@@ -21,12 +21,13 @@ impl<K: Key, D: Dictionary> YFast<K, D> {
         if let Err(refusal) = self.admits(first, second) {
             return Answer::refused(refusal, 0, 0);
         }
-        let at = locate::<K, D>(&mut self.dictionary, &self.inside.table, first);
-        let number = count_span(&self.inside, at.number, first, second);
+        let grove = &self.inside.grove;
+        let at = locate::<K, D>(&mut self.dictionary, &grove.table, first);
+        let number = count_span(grove, at.number, first, second);
         if number > places.len() {
             return Answer::refused(Refusal::Room, at.frames, 0);
         }
-        write_span(&self.inside, at.number, first, second, places);
+        write_span(grove, at.number, first, second, places);
         Answer {
             outcome: Ok(Entry { key: 0, note: 0 }),
             number: number as u16,

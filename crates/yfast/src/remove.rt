@@ -7,7 +7,6 @@ use crate::index::YFast;
 use dictionary::Dictionary;
 use key::Key;
 use ordered::{Answer, Refusal};
-use trie::locate;
 use workings::leave::leave;
 
 impl<K: Key, D: Dictionary> YFast<K, D> {
@@ -20,18 +19,16 @@ impl<K: Key, D: Dictionary> YFast<K, D> {
         if let Err(refusal) = self.admits(key, key) {
             return Answer::refused(refusal, 0, 0);
         }
-        let at = locate::<K, D>(&mut self.dictionary, &self.inside.table, key);
-        let root = self.inside.table.root(at.number);
-        let found = trees::find(&self.inside.pool.nodes, root, key);
-        let Some(entry) = found.entry else {
-            return Answer::refused(Refusal::Absent, at.frames, found.visits);
+        let look = self.look(key);
+        let Some(entry) = look.found.entry else {
+            return Answer::refused(Refusal::Absent, look.frames, look.found.visits);
         };
-        let change = leave::<K, D>(&mut self.dictionary, &mut self.inside, at.number, key);
+        let change = leave::<K, D>(&mut self.dictionary, &mut self.inside, look.number, key);
         Answer {
             outcome: Ok(entry),
             number: 0,
-            frames: at.frames + change.frames,
-            visits: found.visits,
+            frames: look.frames + change.frames,
+            visits: look.found.visits,
             rebuilding: change.rebuilding,
         }
     }

@@ -13,7 +13,7 @@ pub overflow_sub-inside : goal.overflow_sub-inside
 overflow_sub-inside g c = some_counted _ _ _ _ c.args.inside.now g.met.K.Key.wide.0 c.requires.whole c.args.key c.requires.fits c.args.number c.requires.place c.requires.some
 
 pub size-requires : goal.size-requires
-size-requires g c = small c.args.inside.now.table c.args.number c.requires.held
+size-requires g c = small c.args.inside.now.grove.table c.args.number c.requires.held
 
 pub returns-then-size-half_width : goal.returns-then-size-half_width
 returns-then-size-half_width g c =
@@ -22,7 +22,7 @@ returns-then-size-half_width g c =
     let w = g.K.Key.width in
     let d = c.args.d.now in
     let f = g.D.Dictionary.pairs d in
-    let u = c.shrink.new.table in
+    let u = c.shrink.new.self.table in
     let re = c.shrink.ensures in
     let big = g.met.K.Key.wide.0 in
     let way : (half w ≤ size_of u n) ⊎ (length (order_of u) < 2) = elim c.then-size-half_width.branch [
@@ -31,16 +31,15 @@ returns-then-size-half_width g c =
     ] in
     let counted = some_counted w f (g.D.Dictionary.room d) (g.D.Dictionary.frames d) i big c.requires.whole c.args.key c.requires.fits n c.requires.place c.requires.some in
     record {
-      trie = trie_kept w f i.table u c.requires.whole.trie re.kept.order re.kept.rep;
-      forest = re.forest;
-      left = left_still w f (g.D.Dictionary.room d) (g.D.Dictionary.frames d) i big c.requires.whole c.args.key c.requires.fits n c.requires.place c.requires.some u c.shrink.new.pool re way;
+      trie = trie_kept w f i.grove.table u c.requires.whole.trie re.kept.order re.kept.rep;
+      left = left_still w f (g.D.Dictionary.room d) (g.D.Dictionary.frames d) i big c.requires.whole c.args.key c.requires.fits n c.requires.place c.requires.some u c.shrink.new.self.pool c.shrink.new.self.forest re way;
       tally = omega (arith, g.met.D.Dictionary.counts d);
       room = refl;
       rest = (refl, omega (arith, counted), refl);
     }
 
 pub prev-left-requires : goal.prev-left-requires
-prev-left-requires g c = small c.args.inside.now.table c.args.number c.requires.held
+prev-left-requires g c = small c.args.inside.now.grove.table c.args.number c.requires.held
 
 pub mend-requires : goal.mend-requires
 mend-requires g c =
@@ -50,8 +49,8 @@ mend-requires g c =
     let f = g.D.Dictionary.pairs c.args.d.now in
     let room = g.D.Dictionary.room c.args.d.now in
     let tally = g.D.Dictionary.frames c.args.d.now in
-    let u = c.shrink.new.table in
-    let q = c.shrink.new.pool in
+    let u = c.shrink.new.self.table in
+    let q = c.shrink.new.self.pool in
     let re = c.shrink.ensures in
     let big = g.met.K.Key.wide.0 in
     let r = in_row w f room tally i big c.requires.whole c.args.key c.requires.fits n c.requires.place c.requires.some in
@@ -61,9 +60,8 @@ mend-requires g c =
       | else-number-eq0 v ↦ subst (Partner (order_of u) r.pre) (sym (v.left-is ∙ v.prev-left.ensures)) (partner_before u r.pre n r.post is (omega (arith, v.if-number-eq0.false)))
     ] in
     record {
-      trie = trie_kept w f i.table u c.requires.whole.trie re.kept.order re.kept.rep;
-      forest = re.forest;
-      spread = subst (Spread (2 ^ w)) (sym (row_left w f room tally i big c.requires.whole c.args.key c.requires.fits n c.requires.place c.requires.some u q re)) (left_spread w f room tally i big c.requires.whole c.args.key c.requires.fits n c.requires.place c.requires.some);
+      trie = trie_kept w f i.grove.table u c.requires.whole.trie re.kept.order re.kept.rep;
+      spread = subst (Spread (2 ^ w)) (sym (row_left w f room tally i big c.requires.whole c.args.key c.requires.fits n c.requires.place c.requires.some u q c.shrink.new.self.forest re)) (left_spread w f room tally i big c.requires.whole c.args.key c.requires.fits n c.requires.place c.requires.some);
       stands = partner_stands (order_of u) r.pre c.if-number-eq0.left x;
       behind = partner_next u r.pre c.if-number-eq0.left x;
       room = subst (λ o. (w + 1) * length o ≤ room) (sym re.kept.order) (left_room w f room tally i big c.requires.whole c.args.key c.requires.fits n c.requires.place c.requires.some);
@@ -77,7 +75,7 @@ returns g c =
     let f = g.D.Dictionary.pairs c.args.d.now in
     let room = g.D.Dictionary.room c.args.d.now in
     let tally = g.D.Dictionary.frames c.args.d.now in
-    let u = c.shrink.new.table in
+    let u = c.shrink.new.self.table in
     let re = c.shrink.ensures in
     let me = c.mend.ensures in
     let big = g.met.K.Key.wide.0 in
@@ -92,8 +90,7 @@ returns g c =
     let counted = some_counted w f room tally i big c.requires.whole c.args.key c.requires.fits n c.requires.place c.requires.some in
     record {
       trie = me.trie;
-      forest = me.forest;
-      left = left_mended w f room tally i big c.requires.whole c.args.key c.requires.fits n c.requires.place c.requires.some u c.shrink.new.pool re c.mend.result _ (length x.front) few long x.long (me.mended x.front x.other x.rest x.is);
+      left = left_mended w f room tally i big c.requires.whole c.args.key c.requires.fits n c.requires.place c.requires.some u c.shrink.new.self.pool c.shrink.new.self.forest re c.mend.result _ (length x.front) few long x.long (me.mended x.front x.other x.rest x.is);
       tally = me.tally;
       room = me.room;
       rest = (me.rest.0, omega (arith, me.rest.1, counted), me.rest.2);

@@ -22,18 +22,17 @@ second_in : (n m : ℕ) (pre post : List ℕ) → among m (pre ++ n ∷ m ∷ po
 second_in n m pre post = among_right m pre (n ∷ m ∷ post) (among_right m (n ∷ []) (m ∷ post) (among_first m post))
 
 pub next-other-requires : goal.next-other-requires
-next-other-requires g c = small c.args.inside.now.table c.args.number c.requires.stands
+next-other-requires g c = small c.args.inside.now.grove.table c.args.number c.requires.stands
 
 pub unite-requires : goal.unite-requires
 unite-requires g c =
-    let t = c.args.inside.now.table in
-    let p = c.args.inside.now.pool in
+    let t = c.args.inside.now.grove.table in
+    let p = c.args.inside.now.grove.pool in
     let n = c.args.number in
     let w = g.K.Key.width in
     let x = subst (Pair (order_of t) n) (sym c.next-other.ensures) (pair t n c.requires.stands c.requires.behind) in
     let m = c.next-other.result in
     record {
-      forest = c.requires.forest;
       stands = c.requires.stands;
       beside = subst (λ o. among m o ≡ true) (sym x.is) (second_in n m x.pre x.post);
       apart = not_one (rep_of t) n m x.pre x.post (subst (RepsRise (rep_of t)) x.is c.requires.trie.ordered.rises);
@@ -42,8 +41,8 @@ unite-requires g c =
 
 pub close_bucket-requires : goal.close_bucket-requires
 close_bucket-requires g c =
-    let t = c.args.inside.now.table in
-    let u = c.unite.new.table in
+    let t = c.args.inside.now.grove.table in
+    let u = c.unite.new.self.table in
     let n = c.args.number in
     let x = subst (Pair (order_of t) n) (sym c.next-other.ensures) (pair t n c.requires.stands c.requires.behind) in
     let m = c.next-other.result in
@@ -54,13 +53,29 @@ close_bucket-requires g c =
       later = elim (cases_eq m 0) [ inl e ↦ absurd (c.requires.behind (sym c.next-other.ensures ∙ e)) | inr e ↦ omega (arith, e) ];
     }
 
+pub invariant_of-inside : goal.invariant_of-inside
+invariant_of-inside g c =
+    let t = c.args.inside.now.grove.table in
+    let u = c.unite.new.self.table in
+    let v = c.close_bucket.new.table in
+    let p = c.args.inside.now.grove.pool in
+    let q = c.unite.new.self.pool in
+    let n = c.args.number in
+    let m = c.next-other.result in
+    let w = g.K.Key.width in
+    let un = c.unite.ensures in
+    let sh = c.close_bucket.ensures.shows in
+    let x = subst (Pair (order_of t) n) (sym c.next-other.ensures) (pair t n c.requires.stands c.requires.behind) in
+    let rises = c.requires.trie.ordered.rises in
+    record { forest = forest_v t u v p q n m x.pre x.post x.is rises c.unite.new.self.forest un sh }
+
 pub returns : goal.returns
 returns g c =
-    let t = c.args.inside.now.table in
-    let u = c.unite.new.table in
+    let t = c.args.inside.now.grove.table in
+    let u = c.unite.new.self.table in
     let v = c.close_bucket.new.table in
-    let p = c.args.inside.now.pool in
-    let q = c.unite.new.pool in
+    let p = c.args.inside.now.grove.pool in
+    let q = c.unite.new.self.pool in
     let n = c.args.number in
     let m = c.next-other.result in
     let w = g.K.Key.width in
@@ -70,13 +85,12 @@ returns g c =
     let rises = c.requires.trie.ordered.rises in
     record {
       trie = c.close_bucket.ensures.sound;
-      forest = forest_v t u v p q n m x.pre x.post x.is rises un sh;
       merged = λ pre other post is.
           let same : m ≡ other = c.next-other.ensures ∙ (neighbours t pre n (other ∷ post) is).1 in
           let is_m = is ∙ ap (λ y. pre ++ n ∷ y ∷ post) (sym same) in (
-            order_v t u v p q n m pre post is_m rises un sh,
-            row_merged t u v p q n m pre post is_m rises un sh w,
-            c.close_bucket.ensures.frames ∙ frames_merged t u v p q n m pre post is_m rises un sh w,
+            order_v t u v p q n m pre post is_m rises c.unite.new.self.forest un sh,
+            row_merged t u v p q n m pre post is_m rises c.unite.new.self.forest un sh w,
+            c.close_bucket.ensures.frames ∙ frames_merged t u v p q n m pre post is_m rises c.unite.new.self.forest un sh w,
           );
       few = c.close_bucket.ensures.few;
       tally = c.close_bucket.ensures.tally;

@@ -18,8 +18,8 @@ use Rattle.workings.proofs.rebuild.split.Goals as goal
 
 pub open_bucket-opened-requires : goal.open_bucket-opened-requires
 open_bucket-opened-requires g c =
-    let t = c.args.inside.now.table in
-    let p = c.args.inside.now.pool in
+    let t = c.args.inside.now.grove.table in
+    let p = c.args.inside.now.grove.pool in
     let n = c.args.number in
     let w = g.K.Key.width in
     let x = cut (order_of t) n c.requires.stands in
@@ -29,11 +29,11 @@ open_bucket-opened-requires g c =
     subst (Middle w (rep_of t) (order_of t) n) (sym c.middle_key-rep.ensures) (subst (λ o. Middle w (rep_of t) o n (first (drop (length (items_of t p n) / 2) (items_of t p n))).key) (sym x.is) m) in
     record { sound = c.requires.trie; behind = m'.behind; above = m'.above; fits = m'.fits; few = c.requires.few; room = c.requires.room }
 
-pub halve-requires : goal.halve-requires
-halve-requires g c =
-    let t = c.args.inside.now.table in
+pub invariant_of-inside : goal.invariant_of-inside
+invariant_of-inside g c =
+    let t = c.args.inside.now.grove.table in
     let u = c.open_bucket-opened.new.table in
-    let p = c.args.inside.now.pool in
+    let p = c.args.inside.now.grove.pool in
     let n = c.args.number in
     let m = c.open_bucket-opened.result.number in
     let r = c.middle_key-rep.result in
@@ -42,22 +42,36 @@ halve-requires g c =
     let before = not_before (rep_of t) n x.pre x.post rises in
     let new = c.open_bucket-opened.ensures.new in
     let sh = c.open_bucket-opened.ensures.shows in
-    let order = order_opened t u p n m r x.pre x.post c.requires.forest x.is before new sh in
+    record { forest = forest_opened t u p n m r x.pre x.post c.args.inside.now.grove.forest x.is before new sh }
+
+pub halve-requires : goal.halve-requires
+halve-requires g c =
+    let t = c.args.inside.now.grove.table in
+    let u = c.open_bucket-opened.new.table in
+    let p = c.args.inside.now.grove.pool in
+    let n = c.args.number in
+    let m = c.open_bucket-opened.result.number in
+    let r = c.middle_key-rep.result in
+    let x = cut (order_of t) n c.requires.stands in
+    let rises = subst (Rising (rep_of t)) x.is c.requires.trie.ordered.rises in
+    let before = not_before (rep_of t) n x.pre x.post rises in
+    let new = c.open_bucket-opened.ensures.new in
+    let sh = c.open_bucket-opened.ensures.shows in
+    let order = order_opened t u p n m r x.pre x.post c.args.inside.now.grove.forest x.is before new sh in
     record {
-      forest = forest_opened t u p n m r x.pre x.post c.requires.forest x.is before new sh;
       stands = subst (λ o. among n o ≡ true) (sym order) (among_right n x.pre (n ∷ m ∷ x.post) (among_first n (m ∷ x.post)));
       beside = subst (λ o. among m o ≡ true) (sym order) (among_right m x.pre (n ∷ m ∷ x.post) (among_right m (n ∷ []) (m ∷ x.post) (among_first m x.post)));
       apart = λ e. false≢true (sym new ∙ subst (λ y. among y (order_of t) ≡ true) e c.requires.stands);
-      empty = ap entries (tree_new t u p n m r x.pre x.post c.requires.forest x.is before new sh);
+      empty = ap entries (tree_new t u p n m r x.pre x.post c.args.inside.now.grove.forest x.is before new sh);
     }
 
 pub returns : goal.returns
 returns g c =
-    let t = c.args.inside.now.table in
+    let t = c.args.inside.now.grove.table in
     let u = c.open_bucket-opened.new.table in
-    let v = c.halve.new.table in
-    let p = c.args.inside.now.pool in
-    let q = c.halve.new.pool in
+    let v = c.halve.new.self.table in
+    let p = c.args.inside.now.grove.pool in
+    let q = c.halve.new.self.pool in
     let n = c.args.number in
     let m = c.open_bucket-opened.result.number in
     let w = g.K.Key.width in
@@ -67,13 +81,12 @@ returns g c =
     let sh = subst (λ r. Shows u (put_after n m (order_of t)) (with_at (rep_of t) m r) (with_at (size_of t) m 0) (with_at (root_of t) m no_tree)) key c.open_bucket-opened.ensures.shows in
     record {
       trie = trie_kept w (g.D.Dictionary.pairs c.open_bucket-opened.new.d) u v c.open_bucket-opened.ensures.sound ha.kept.order ha.kept.rep;
-      forest = ha.forest;
       split = λ pre post is.
           let rises = subst (Rising (rep_of t)) is c.requires.trie.ordered.rises in
           let before = not_before (rep_of t) n pre post rises in
           let behind = not_behind (rep_of t) n pre post rises in (
-            row_split t u v p q n m pre post c.requires.forest is before behind new sh ha w,
-            c.open_bucket-opened.ensures.frames ∙ (ap (λ r. turning w (reps_of t) r) key ∙ frames_split t u v p q n m pre post c.requires.forest is before behind new sh ha w),
+            row_split t u v p q n m pre post c.args.inside.now.grove.forest is before behind new sh ha w,
+            c.open_bucket-opened.ensures.frames ∙ (ap (λ r. turning w (reps_of t) r) key ∙ frames_split t u v p q n m pre post c.args.inside.now.grove.forest is before behind new sh ha w),
           );
       few = c.open_bucket-opened.ensures.few;
       tally = c.open_bucket-opened.ensures.tally;

@@ -18,7 +18,7 @@ use Rattle.runs.specs.States.{Answered}
 use Rattle.inside.specs.Whole.{state_of, Does}
 use Rattle.ordered.specs.Answers.{answer_of, reply_of}
 use Rattle.inside.proofs.Quiet.{one_key, find_step}
-use Rattle.inside.proofs.Finds.{barred_does, open_whole, one_fits, open_does, sound_kept}
+use Rattle.inside.proofs.Finds.{barred_does, open_whole, one_fits, open_does_on}
 use Rattle.yfast.proofs.index.YFast.find.Goals as goal
 
 answer_with : Answer → Answered
@@ -41,16 +41,12 @@ returns-in-Err g c =
       room = refl;
     }
 
-pub root-root-requires : goal.root-root-requires
-root-root-requires g c =
-    small c.args.self.now.inside.table c.locate-at.result.number c.locate-at.ensures.held
-
-pub find-found-requires : goal.find-found-requires
-find-found-requires g c =
+pub look-look-requires : goal.look-look-requires
+look-look-requires g c =
     let i = c.args.self.now.inside in
     let k = c.args.key in
     let o = open_whole _ _ _ _ i k k c.args.self.now.sound c.in_default.ensures in
-    subst (Standing i.pool.nodes) (sym c.root-root.ensures) (all_among (λ n. Standing i.pool.nodes (root_of i.table n)) (order_of i.table) c.locate-at.result.number o.1.forest.trees c.locate-at.ensures.held)
+    record { unshut = o.0; fits = one_fits i.shut g.K.Key.width k c.in_default.ensures }
 
 pub returns : goal.returns
 unfolding answer_with
@@ -58,27 +54,21 @@ returns g c =
     let k = c.args.key in
     let i = c.args.self.now.inside in
     let d = c.args.self.now.dictionary in
-    let e = c.locate-at.new.d in
+    let y = c.look-look.new.self in
     let w = g.K.Key.width in
     let f = g.D.Dictionary.pairs d in
     let room = g.D.Dictionary.room d in
     let tally = g.D.Dictionary.frames d in
-    let n = g.D.Dictionary.frames e in
+    let n = g.D.Dictionary.frames y.dictionary in
     let o = open_whole w f room tally i k k c.args.self.now.sound c.in_default.ensures in
-    let m = holder (rep_of i.table) (order_of i.table) k in
-    let root : c.root-root.result ≡ root_of i.table m = c.root-root.ensures ∙ ap (root_of i.table) c.locate-at.ensures.number in
-    let entry = c.find-found.ensures.entry ∙ ap (λ r. foremost (at k (entries_at i.pool.nodes r))) root in
-    let seen_is = c.find-found.ensures.visits ∙ ap (λ r. seen k (tree_at i.pool.nodes r)) root in
-    let fr = c.locate-at.ensures.frames in
-    let q : c.new.result ≡ reply_of (foremost (at k (items_of i.table i.pool m))) Absent (searching w (reps_of i.table) k) (seen k (tree_of i.table i.pool m)) =
+    let m = holder (rep_of i.grove.table) (order_of i.grove.table) k in
+    let e = c.look-look.ensures in
+    let xs = at k (items_of i.grove.table i.grove.pool m) in
+    let q : c.new.result ≡ reply_of (foremost xs) Absent (searching w (reps_of i.grove.table) k) (seen k (tree_of i.grove.table i.grove.pool m)) =
     c.new.ensures
-    ∙ (ap (λ x. answer_of x c.locate-at.result.frames c.find-found.result.visits) c.ok_or.ensures.value
-    ∙ (ap (λ x. reply_of x Absent c.locate-at.result.frames c.find-found.result.visits) entry
-    ∙ (ap (λ x. reply_of (foremost (at k (items_of i.table i.pool m))) Absent x c.find-found.result.visits) fr
-    ∙ ap (λ x. reply_of (foremost (at k (items_of i.table i.pool m))) Absent (searching w (reps_of i.table) k) x) seen_is))) in
-    let t = find_step w f room tally i g.met.K.Key.wide.0 o.1 k [] n (one_fits i.shut w k c.in_default.ensures) (g.met.D.Dictionary.counts e) (c.locate-at.ensures.tally ∙ ap (raised tally) fr) in
-    record {
-      does = open_does w f (g.D.Dictionary.pairs e) tally n i (Find k) [] _ (answer_with c.new.result) o.0 c.locate-at.ensures.pairs (ap answer_with q) t;
-      inside = refl;
-      room = c.locate-at.ensures.room;
-    }
+    ∙ (ap (λ x. answer_of x c.look-look.result.frames c.look-look.result.found.visits) c.ok_or.ensures.value
+    ∙ (ap (λ x. reply_of x Absent c.look-look.result.frames c.look-look.result.found.visits) e.looked.entry
+    ∙ (ap (λ x. reply_of (foremost xs) Absent x c.look-look.result.found.visits) e.looked.frames
+    ∙ ap (λ x. reply_of (foremost xs) Absent (searching w (reps_of i.grove.table) k) x) e.looked.visits))) in
+    let t = find_step w f room tally i g.met.K.Key.wide.0 o.1 k [] n (one_fits i.shut w k c.in_default.ensures) (g.met.D.Dictionary.counts y.dictionary) (e.tally ∙ ap (raised tally) e.looked.frames) in
+    record { does = open_does_on w f (g.D.Dictionary.pairs y.dictionary) tally n i y.inside (Find k) [] _ (answer_with c.new.result) o.0 e.pairs e.inside (ap answer_with q) t; inside = e.inside; room = e.room }

@@ -40,13 +40,6 @@ returns-in-Err g c =
       room = refl;
     }
 
-pub last_from-found-requires : goal.last_from-found-requires
-last_from-found-requires g c =
-    let i = c.args.self.now.inside in
-    let k = c.args.key in
-    let o = open_whole _ _ _ _ i k k c.args.self.now.sound c.in_default.ensures in
-    record { forest = o.1.forest; held = c.locate-at.ensures.held }
-
 pub returns : goal.returns
 unfolding answer_with
 returns g c =
@@ -61,18 +54,18 @@ returns g c =
     let n = g.D.Dictionary.frames e in
     let o = open_whole w f room tally i k k c.args.self.now.sound c.in_default.ensures in
     let m = c.locate-at.result.number in
-    let items = items_of i.table i.pool in
-    let tree = tree_of i.table i.pool in
-    let cut = subst (InRow (rep_of i.table) (order_of i.table) k) (sym c.locate-at.ensures.number) (held_in w f i.table o.1.trie k) in
+    let items = items_of i.grove.table i.grove.pool in
+    let tree = tree_of i.grove.table i.grove.pool in
+    let cut = subst (InRow (rep_of i.grove.table) (order_of i.grove.table) k) (sym c.locate-at.ensures.number) (held_in w f i.grove.table o.1.trie k) in
     let found = c.last_from-found.ensures cut.pre cut.post cut.is in
     let fr = c.locate-at.ensures.frames in
     let xs = back [] items cut.pre ++ upto k (items m) in
-    let q : c.new.result ≡ reply_of (hindmost xs) Nothing (searching w (reps_of i.table) k) (seen k (tree m) + cond (filled (upto k (items m))) 0 (high_way (back leaf tree cut.pre))) =
+    let q : c.new.result ≡ reply_of (hindmost xs) Nothing (searching w (reps_of i.grove.table) k) (seen k (tree m) + cond (filled (upto k (items m))) 0 (high_way (back leaf tree cut.pre))) =
     c.new.ensures
     ∙ (ap (λ x. answer_of x c.locate-at.result.frames c.last_from-found.result.visits) c.ok_or.ensures.value
     ∙ (ap (λ x. reply_of x Nothing c.locate-at.result.frames c.last_from-found.result.visits) found.entry
     ∙ (ap (λ x. reply_of (hindmost xs) Nothing x c.last_from-found.result.visits) fr
-    ∙ ap (λ x. reply_of (hindmost xs) Nothing (searching w (reps_of i.table) k) x) found.visits))) in
+    ∙ ap (λ x. reply_of (hindmost xs) Nothing (searching w (reps_of i.grove.table) k) x) found.visits))) in
     let t = last_step w f room tally i g.met.K.Key.wide.0 o.1 k [] n m cut (one_fits i.shut w k c.in_default.ensures) (g.met.D.Dictionary.counts e) (c.locate-at.ensures.tally ∙ ap (raised tally) fr) in
     record {
       does = open_does w f (g.D.Dictionary.pairs e) tally n i (Last k) [] _ (answer_with c.new.result) o.0 c.locate-at.ensures.pairs (ap answer_with q) t;
