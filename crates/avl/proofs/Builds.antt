@@ -1,6 +1,6 @@
 -- A tree of given nodes: the middle one above the trees of the others.
 --
---   lowest_none, lowest_half, lowest_fits  the height of the lowest tree: of none, from the half; it is small
+--   lowest_none, lowest_log  the height of the lowest tree: of none, from the logarithm
 --   lower, same_low   it falls with the number, and is one height
 --   Halves, halves    the row around its middle
 --   built_none        no node
@@ -8,7 +8,8 @@
 --   order_short       a row is no longer than the pool
 --   order_tree, order_parts, order_join, order_kept  rows of trees, their parts, two joined, and after changes elsewhere
 --   order_left, order_right, build_hook, built_join  the calls on both sides, and the node above them
-use Rattle.std.proofs.Common.{◌≡◌, ℕ, ◌+◌, ◌*◌, ◌/◌, ◌^◌, ◌<◌, ◌≤◌, List, [], ◌∷◌, ◌++◌, map, length, get_or, sym, refl, ap, ◌∙◌, subst, inl, inr, arith, length-append, pow_pos, pow_mono, pow-add}
+use Rattle.std.proofs.Common.{◌≡◌, ℕ, ◌+◌, ◌*◌, ◌/◌, ◌^◌, ◌<◌, ◌≤◌, List, [], ◌∷◌, ◌++◌, map, length, sym, refl, ap, ◌∙◌, subst, inl, inr, arith, length-append, pow_pos, pow_mono, pow-add}
+use Rattle.std.specs.List.{IsFirstAndRest}
 use Rattle.std.proofs.lemmas.List.{map-append, nil_from_length}
 use Rattle.std.proofs.lemmas.Bool.{cases_lt}
 use Rattle.entry.specs.Lists.{Rising}
@@ -31,14 +32,8 @@ twice k = pow-add 2 1 k
 pub lowest_none : (n : ℕ) → n ≡ 0 → Lowest n 0
 lowest_none n e = (omega arith, omega arith)
 
-pub lowest_half : (n k : ℕ) → (n ≡ 0 → ⊥) → Lowest (n / 2) k → Lowest n (1 + k)
-lowest_half n k ne h = (omega (arith, twice k, h.0), omega (arith, twice k, h.1))
-
-pub lowest_fits : (n h : ℕ) → n ≤ 512 → Lowest n h → h < 11
-lowest_fits n h few l = elim (cases_lt h 11) [
-  | inl lt ↦ lt
-  | inr ge ↦ absurd (let m : 2 ^ 11 ≤ 2 ^ h = pow_mono {i = 11} ge in omega (arith, m, l.1))
-]
+pub lowest_log : (n k : ℕ) → 2 ^ k ≤ n → n < 2 * 2 ^ k → Lowest n (1 + k)
+lowest_log n k le lt = (omega (arith, twice k), omega (arith, twice k))
 
 pub lower : (n h a k : ℕ) → Lowest n h → Lowest a k → 1 ≤ n → 2 * a ≤ n → k < h
 lower n h a k ln la pos half = elim (cases_lt k h) [
@@ -78,15 +73,10 @@ pub record Halves (ps fs : List ℕ) (m : ℕ) (rs : List ℕ) : Type 0 where
   pub more : length fs ≤ length rs + 1
   pub long : length ps ≡ length fs + 1 + length rs
 
-split_at : (ps fs back one rest : List ℕ) → ps ≡ fs ++ back → back ≡ one ++ rest → length one ≡ 1 → ps ≡ fs ++ get_or one 0 0 ∷ rest
-split_at ps fs back [] rest a b e = absurd (omega arith)
-split_at ps fs back (x ∷ []) rest a b e = a ∙ ap (λ z. fs ++ z) b
-split_at ps fs back (x ∷ y ∷ ys) rest a b e = absurd (omega arith)
-
-pub halves : (ps fs back one rest : List ℕ) → ps ≡ fs ++ back → back ≡ one ++ rest → length one ≡ 1 → length fs ≡ length ps / 2 → Halves ps fs (get_or one 0 0) rest
-halves ps fs back one rest a b e half =
-    let is = split_at ps fs back one rest a b e in
-    let long : length ps ≡ length fs + 1 + length rest = omega (arith, ap length is, length-append fs (get_or one 0 0 ∷ rest)) in
+pub halves : (ps fs back : List ℕ) (m : ℕ) (rest : List ℕ) → ps ≡ fs ++ back → IsFirstAndRest back m rest → length fs ≡ length ps / 2 → Halves ps fs m rest
+halves ps fs back m rest a b half =
+    let is : ps ≡ fs ++ m ∷ rest = a ∙ ap (λ z. fs ++ z) b.0 in
+    let long : length ps ≡ length fs + 1 + length rest = omega (arith, ap length is, length-append fs (m ∷ rest)) in
     record { is = is; less = omega arith; more = omega arith; long = long }
 
 pub built_none : (ns : List Node) (ps : List ℕ) → length ns ≤ 512 → length ps ≡ 0 → Built ns ns ps 65535 (tree_at ns 65535)

@@ -4,12 +4,12 @@
 --   Shared  every index below 512 stands once among those in use and the free ones, and no other does
 --   Lent    an index was handed out: it was not in use
 --   Took    what handing out answers: an index, or nothing if all 512 are in use
-use Rattle.std.specs.Prelude.{◌≡◌, ℕ, ◌+◌, ◌<◌, cond, List, [], ◌∷◌, ◌++◌, length, take, Some, None, Option, nat_lt}
+use Rattle.std.specs.Prelude.{◌≡◌, ℕ, ◌+◌, ◌<◌, cond, List, [], ◌∷◌, ◌++◌, length, Some, None, Option, nat_lt}
 use Rattle.trees.specs.Counts.{times}
 use Rattle.avl.specs.declared.pool.Pool.{Pool}
 
 abbrev pub free : Pool → List ℕ
-free p = take p.count p.spare
+free p = p.spare.items
 
 abbrev pub Shared : List ℕ → List ℕ → Type 0
 Shared used spare = (m : ℕ) → times m used + times m spare ≡ cond (nat_lt m 512) 1 0

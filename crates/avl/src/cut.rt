@@ -7,10 +7,11 @@ ghost use Rattle.trees.specs.Pools.{tree_at, Standing};
 ghost use Rattle.avl.specs.Cuts.{Held, First, Rootless, Shrank};
 
 use crate::turns::level;
+use std::cmp::Ordering;
 use trees::{NONE, Node};
 
 // The new root, the node that is free now, and the entries on the search path in the tree as it was.
-#[derive(Clone, Copy)]
+#[derive(Clone, Copy, Debug, Eq, PartialEq)]
 pub struct Shrunk {
     pub root: u16,
     pub gone: u16,
@@ -54,28 +55,32 @@ pub fn remove(nodes: &mut [Node], root: u16, key: u64) -> Shrunk
     ensures { Shrank nodes.old nodes.new result key (tree_at nodes.old root) (tree_at nodes.new result.root) }
 {
     let here = nodes[root as usize];
-    if key < here.key {
-        let left = remove(nodes, here.left, key);
-        let top = level(nodes, root, left.root, here.right);
-        return Shrunk {
-            root: top,
-            gone: left.gone,
-            visits: left.visits + 1,
-        };
-    }
-    if here.key < key {
-        let right = remove(nodes, here.right, key);
-        let top = level(nodes, root, here.left, right.root);
-        return Shrunk {
-            root: top,
-            gone: right.gone,
-            visits: right.visits + 1,
-        };
-    }
-    let top = drop_root(nodes, root);
-    Shrunk {
-        root: top,
-        gone: root,
-        visits: 1,
+    match key.cmp(&here.key) {
+        Ordering::Less => {
+            let left = remove(nodes, here.left, key);
+            let top = level(nodes, root, left.root, here.right);
+            Shrunk {
+                root: top,
+                visits: left.visits + 1,
+                ..left
+            }
+        }
+        Ordering::Equal => {
+            let top = drop_root(nodes, root);
+            Shrunk {
+                root: top,
+                gone: root,
+                visits: 1,
+            }
+        }
+        Ordering::Greater => {
+            let right = remove(nodes, here.right, key);
+            let top = level(nodes, root, here.left, right.root);
+            Shrunk {
+                root: top,
+                visits: right.visits + 1,
+                ..right
+            }
+        }
     }
 }

@@ -8,7 +8,7 @@ use entry::Entry;
 use trees::{NONE, Node};
 
 // The new root, and the entries on the search path in the tree as it was.
-#[derive(Clone, Copy)]
+#[derive(Clone, Copy, Debug, Eq, PartialEq)]
 pub struct Grown {
     pub root: u16,
     pub visits: u16,

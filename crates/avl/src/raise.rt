@@ -4,7 +4,7 @@
 // root, and what lies before and behind it its subtrees. The height that a subtree will have follows from
 // the number of its nodes, and falls from call to call.
 
-ghost use Rattle.std.specs.Prelude.{◌≡◌, ◌≤◌, length};
+ghost use Rattle.std.specs.Prelude.{◌≡◌, length};
 ghost use Rattle.trees.specs.Trees.{tall};
 ghost use Rattle.trees.specs.Pools.{tree_at};
 ghost use Rattle.avl.specs.Builds.{Lowest, Order, Built};
@@ -14,13 +14,12 @@ use trees::{NONE, Node};
 
 // The height of the lowest tree of so many nodes.
 fn height_for(count: usize) -> u8
-    requires { count ≤ 512 }
     ensures { Lowest count result }
 {
     if count == 0 {
         0
     } else {
-        1 + height_for(count / 2)
+        1 + count.ilog2() as u8
     }
 }
 
@@ -30,13 +29,10 @@ fn raise(nodes: &mut [Node], order: &[u16], height: u8) -> u16
     ensures built { Built nodes.old nodes.new order.now result (tree_at nodes.new result) }
     ensures height { tall (tree_at nodes.new result) ≡ height }
 {
-    let count = order.len();
-    if count == 0 {
+    let (front, back) = order.split_at(order.len() / 2);
+    let Some((&middle, rest)) = back.split_first() else {
         return NONE;
-    }
-    let (front, back) = order.split_at(count / 2);
-    let (one, rest) = back.split_at(1);
-    let middle = one[0];
+    };
     let left = raise(nodes, front, height_for(front.len()));
     let right = raise(nodes, rest, height_for(rest.len()));
     hang(nodes, middle, left, right);

@@ -20,16 +20,22 @@ fn rising_keys(rt: HostRuntime) -> Result<(), Fail> {
     let one = insert(&mut nodes, NONE, 0, Entry { key: 10, note: 1 });
     let two = insert(&mut nodes, one.root, 1, Entry { key: 20, note: 2 });
     let three = insert(&mut nodes, two.root, 2, Entry { key: 30, note: 3 });
-    assert_eq!(rt; three.root, 1);
-    assert_eq!(rt; three.visits, 2);
+    assert_eq!(rt; three, Grown { root: 1, visits: 2 });
     let cut = remove(&mut nodes, three.root, 20);
-    assert!(rt; cut.root == 2 && cut.gone == 1 && cut.visits == 1);
+    assert_eq!(rt;
+        cut,
+        Shrunk {
+            root: 2,
+            gone: 1,
+            visits: 1
+        }
+    );
     Ok(())
 }
 
 #[test]
 fn free_nodes(rt: HostRuntime) {
     let mut pool = Pool::new();
-    assert!(rt; pool.take() == Some(511));
-    assert!(rt; pool.take() == Some(510));
+    assert_eq!(rt; pool.take(), Some(511));
+    assert_eq!(rt; pool.take(), Some(510));
 }

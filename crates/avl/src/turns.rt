@@ -31,13 +31,11 @@ pub(crate) fn hang(nodes: &mut [Node], i: u16, left: u16, right: u16)
 {
     let low = height_of(nodes, left);
     let high = height_of(nodes, right);
-    let old = nodes[i as usize];
     nodes[i as usize] = Node {
-        key: old.key,
-        note: old.note,
         left,
         right,
         height: 1 + low.max(high),
+        ..nodes[i as usize]
     };
 }
 
@@ -80,6 +78,7 @@ fn lean_left(nodes: &mut [Node], i: u16, left: u16, right: u16) -> u16
 }
 
 // The node i above two trees, the left one two higher.
+// One function over a side, for both, would choose at each child and at the order of the crown's seven.
 fn lean_right(nodes: &mut [Node], i: u16, left: u16, right: u16) -> u16
     requires loose { Loose nodes.old i left right }
     requires two { tall (tree_at nodes.old left) ≡ 2 + tall (tree_at nodes.old right) }

@@ -11,7 +11,8 @@ use Rattle.ordered.specs.declared.refusal.Refusal.TheVariants.{Shut}
 use Rattle.ordered.specs.Meaning.{View}
 use Rattle.wire.specs.declared.command.Command.{Command}
 use Rattle.wire.specs.Commands.{fields}
-use Rattle.leases.specs.Plans.{Plan, Planned, refusal, turned_away, unless}
+use Rattle.ordered.specs.Answers.{no_of}
+use Rattle.leases.specs.Plans.{Plan, Planned, turned_away, unless}
 use Rattle.leases.specs.Checks.{early}
 use Rattle.leases.specs.Stretches.{Spaced}
 use Rattle.leases.specs.Commands.{plan, commanded, change}
@@ -62,20 +63,20 @@ did_shut b c r b' d = go (part_of c) d.planned.shut d.kept
     go Events e k = rw (e, ap (λ (v : View). v.shut) k.0, ap (λ (v : View). v.shut) k.1) refl
 
 -- ---- on the way to a command
-pub refused_shut : (b : BookView) (c : Command) → Standing b → shut b ≡ true → Did b c (refusal Shut 0 0) b
+pub refused_shut : (b : BookView) (c : Command) → Standing b → shut b ≡ true → Did b c (no_of Shut 0 0) b
 refused_shut b c s e =
-    let P : Bool → Type 0 = λ t. Planned (look (part_of c) b) (cond t (turned_away Shut [] (look (part_of c) b)) (commanded (look (part_of c) b) c)) (refusal Shut 0 0) (look (part_of c) b) in
-    did b c (refusal Shut 0 0) b (subst P (sym e) (refuse_early (look (part_of c) b) Shut (part_seven (part_of c) b s))) (kept_self (part_of c) b)
+    let P : Bool → Type 0 = λ t. Planned (look (part_of c) b) (cond t (turned_away Shut [] (look (part_of c) b)) (commanded (look (part_of c) b) c)) (no_of Shut 0 0) (look (part_of c) b) in
+    did b c (no_of Shut 0 0) b (subst P (sym e) (refuse_early (look (part_of c) b) Shut (part_seven (part_of c) b s))) (kept_self (part_of c) b)
 
 pub book_plan_open : (b : BookView) (c : Command) → shut b ≡ false → book_plan b c ≡ commanded (look (part_of c) b) c
 book_plan_open b c e = ap (λ (t : Bool). cond t (turned_away Shut [] (look (part_of c) b)) (commanded (look (part_of c) b) c)) e
 
-pub refused_early : (b : BookView) (c : Command) (e : Refusal) → Standing b → shut b ≡ false → early c ≡ Some e → Did b c (refusal e 0 0) b
+pub refused_early : (b : BookView) (c : Command) (e : Refusal) → Standing b → shut b ≡ false → early c ≡ Some e → Did b c (no_of e 0 0) b
 refused_early b c e s o h =
     let v = look (part_of c) b in
-    let P : Plan → Type 0 = λ p. Planned v p (refusal e 0 0) v in
-    let Q : Option Refusal → Type 0 = λ why. Planned v (unless why v (plan v c)) (refusal e 0 0) v in
-    did b c (refusal e 0 0) b (subst P (sym (book_plan_open b c o)) (subst Q (sym h) (refuse_early v e (part_seven (part_of c) b s)))) (kept_self (part_of c) b)
+    let P : Plan → Type 0 = λ p. Planned v p (no_of e 0 0) v in
+    let Q : Option Refusal → Type 0 = λ why. Planned v (unless why v (plan v c)) (no_of e 0 0) v in
+    did b c (no_of e 0 0) b (subst P (sym (book_plan_open b c o)) (subst Q (sym h) (refuse_early v e (part_seven (part_of c) b s)))) (kept_self (part_of c) b)
 
 pub carried : (b : BookView) (c : Command) (r : Answer) (b' : BookView) → shut b ≡ false → early c ≡ None → Planned (look (part_of c) b) (plan (look (part_of c) b) c) r (look (part_of c) b') →
     Kept (part_of c) b b' → Did b c r b'

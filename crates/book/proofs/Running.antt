@@ -1,5 +1,7 @@
 -- A script, command by command.
 use Rattle.std.proofs.Common.{◌≡◌, ℕ, suc, ◌+◌, ◌-◌, ◌*◌, ◌<◌, ◌≤◌, min, List, [], ◌∷◌, ◌++◌, map, length, take, drop, sym, refl, ap, ◌∙◌, ⊎_elim, append_assoc, append-nil, add-one, arith, length-append, length-drop, take_all, drop-drop}
+use lib.Seq.{take-append_seam, drop-append_seam}
+use Rattle.std.proofs.lemmas.List.{drop_all}
 use borrow.Rule.Slice.PartMut.{put_mid}
 use Rattle.std.proofs.lemmas.List.{map-append}
 use Rattle.std.proofs.lemmas.Slice.{take-put_mid, drop-put_mid}
@@ -70,13 +72,26 @@ running_more b u b' script before out part ys n k ran room is ek a =
 pub ran : {b b' : BookView} {script before out : List ℕ} {n : ℕ} → Running b script before n out b' → Ran b script before n out b'
 ran r = record { turns = r.turns; asked = r.asked; runs = r.runs; law = adds_frames (runs_adds r.runs); front = r.front; rest = r.rest }
 
--- up to its end or for 32 bytes, the part of a script is the same
-pub part_is : (script : List ℕ) (i : ℕ) → take (min (32 * i + 32) (length script) - 32 * i) (drop (32 * i) script) ≡ piece script i
-part_is script i =
-    let long = length-drop (32 * i) script in
-    ⊎_elim
-    (λ (h : length script < 32 * i + 32).
-    take_all (min (32 * i + 32) (length script) - 32 * i) (drop (32 * i) script) (omega arith) ∙ sym (take_all 32 (drop (32 * i) script) (omega arith)))
-    (λ (h : 32 * i + 32 ≤ length script).
-    let e : min (32 * i + 32) (length script) - 32 * i ≡ 32 = omega arith in ap (λ (k : ℕ). take k (drop (32 * i) script)) e)
-    (cases_lt (length script) (32 * i + 32))
+-- ---- a script in parts of 32 bytes, the last one perhaps shorter
+pub record Reading (script rest : List ℕ) (n : ℕ) : Type 0 where
+  pub rest_is : rest ≡ drop (32 * n) script
+  pub near : 32 * n < length script + 32
+
+pub part_is : (script rest part rest' : List ℕ) (n : ℕ) → Reading script rest n → rest ≡ part ++ rest' → length part ≡ min 32 (length rest) → part ≡ piece script n
+part_is script rest part rest' n r e l =
+    let whole : take (length part) rest ≡ part = ap (take (length part)) e ∙ take-append_seam part rest' in
+    let cut : take (length part) rest ≡ take 32 rest = ⊎_elim
+    (λ (h : length rest < 32). take_all (length part) rest (omega arith) ∙ sym (take_all 32 rest (omega arith)))
+    (λ (h : 32 ≤ length rest). let m : length part ≡ 32 = omega arith in ap (λ (k : ℕ). take k rest) m)
+    (cases_lt (length rest) 32) in
+    sym whole ∙ cut ∙ ap (take 32) r.rest_is
+
+pub reading_more : (script rest part rest' : List ℕ) (n : ℕ) → Reading script rest n → rest ≡ part ++ rest' → length part ≡ min 32 (length rest) → 0 < length rest → Reading script rest' (n + 1)
+reading_more script rest part rest' n r e l some =
+    let next : drop 32 (drop (32 * n) script) ≡ drop (32 * (n + 1)) script = drop-drop 32 (32 * n) script ∙ ap (λ (k : ℕ). drop k script) (omega arith) in
+    let after : drop (length part) rest ≡ rest' = ap (drop (length part)) e ∙ drop-append_seam part rest' in
+    let cut : drop (length part) rest ≡ drop 32 rest = ⊎_elim
+    (λ (h : length rest < 32). drop_all (length part) rest (omega arith) ∙ sym (drop_all 32 rest (omega arith)))
+    (λ (h : 32 ≤ length rest). let m : length part ≡ 32 = omega arith in ap (λ (k : ℕ). drop k rest) m)
+    (cases_lt (length rest) 32) in
+    record { rest_is = sym after ∙ cut ∙ ap (drop 32) r.rest_is ∙ next; near = omega (arith, ap length r.rest_is, length-drop (32 * n) script) }

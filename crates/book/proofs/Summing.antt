@@ -15,7 +15,8 @@ use Rattle.wire.specs.declared.command.Command.{Command}
 use Rattle.wire.specs.Commands.{fields, changing}
 use Rattle.wire.specs.Reading.{code_of}
 use Rattle.wire.proofs.Codes.{code_spelt}
-use Rattle.leases.specs.Plans.{Plan, Planned, refusal}
+use Rattle.ordered.specs.Answers.{no_of}
+use Rattle.leases.specs.Plans.{Plan, Planned}
 use Rattle.leases.specs.Commands.{change}
 use Rattle.leases.proofs.Counting.{no_change}
 use Rattle.book.specs.declared.part.Part.{Part}
@@ -90,7 +91,7 @@ did_adds b c r b' d =
     let n : (book_plan b c).changes ≡ change (fields c).code r.outcome = size.changes ∙ ap (change (fields c).code) (sym d.planned.outcome) in
     adds_by (part_of c) b b' (book_plan b c) r (change (fields c).code r.outcome) d.planned d.kept size.few n (change_one (fields c).code r.outcome)
 
-pub adds_away : (b b' : BookView) (code : ℕ) (r : Answer) (e : Refusal) → r ≡ refusal e 0 0 → b' ≡ b → Adds b r.frames 1 (change code r.outcome) b'
+pub adds_away : (b b' : BookView) (code : ℕ) (r : Answer) (e : Refusal) → r ≡ no_of e 0 0 → b' ≡ b → Adds b r.frames 1 (change code r.outcome) b'
 adds_away b b' code r e i k =
     let f : r.frames ≡ 0 = ap (λ (a : Answer). a.frames) i in
     let n : change code r.outcome ≡ 0 = ap (λ (a : Answer). change code a.outcome) i ∙ no_change code e in

@@ -6,6 +6,7 @@
 --   shut        whether one of the three is shut
 --   room        how many entries each may hold
 --   Bounded     each index that is not shut has that limit, and the leases stand one after another
+--   Bounded-prop   that has one proof at most
 --   Standing    what always holds of a book
 --   book_plan   what a command does on its index
 --   Kept        the two indexes that a command does not go to keep their whole view
@@ -18,7 +19,8 @@ use Rattle.ordered.specs.Meaning.{View, Lawful}
 use Rattle.wire.specs.declared.command.Command.{Command}
 use Rattle.wire.specs.declared.command.Command.TheVariants.{AddName, RemoveName, FindName, NextName, Lease, Release, Who, AddEvent, RemoveEvent, Due}
 use Rattle.leases.specs.Plans.{Plan, Planned, turned_away}
-use Rattle.leases.specs.Stretches.{Spaced}
+use Rattle.leases.specs.Stretches.{Spaced, Spaced-prop}
+use Rattle.std.proofs.Props.{props}
 use Rattle.leases.specs.Commands.{commanded}
 use Rattle.book.specs.declared.part.Part.{Part}
 use Rattle.book.specs.declared.part.Part.TheVariants.{Names, Leases, Events}
@@ -60,6 +62,9 @@ pub record Bounded (b : BookView) : Type 0 where
   pub leases : b.leases.shut ≡ false → b.leases.limit ≡ room
   pub events : b.events.shut ≡ false → b.events.limit ≡ room
   pub spaced : Spaced b.leases.entries
+
+pub Bounded-prop : (b : BookView) → IsProp (Bounded b)
+Bounded-prop b = Prim.hlevel (Spaced-prop, props)
 
 pub record Standing (b : BookView) : Type 0 where
   pub names : Lawful 56 b.names

@@ -1,6 +1,6 @@
 // The three indexes of a book.
 
-#[derive(Clone, Copy)]
+#[derive(Clone, Copy, PartialEq, Eq, Debug)]
 pub enum Part {
     Names,
     Leases,

@@ -4,7 +4,6 @@ ghost use Rattle.book.specs.Serving.{Served, Answered};
 ghost use Rattle.book.specs.Runs.{Ran, parts};
 
 use crate::ledger::Ledger;
-use leases::answers::refused;
 use ordered::{Answer, Refusal};
 use wire::Command;
 use wire::bytes::code_of;
@@ -12,24 +11,20 @@ use wire::reply::reply;
 
 // What the book answers to some bytes: 32 that spell a command, or others.
 pub fn serve<B: Ledger>(book: &mut B, bytes: &[u8]) -> Answer
-    requires { B.Ledger.sound book.old }
-    ensures sound { B.Ledger.sound book.new }
-    ensures served { Served (B.Ledger.view book.old) bytes.now result (B.Ledger.view book.new) }
+    ensures { Served (B.Ledger.view book.old) bytes.now result (B.Ledger.view book.new) }
 {
     if book.is_shut() {
-        return refused(Refusal::Shut, 0, 0);
+        return Answer::refused(Refusal::Shut, 0, 0);
     }
     match Command::from_bytes(bytes) {
         Ok(command) => book.obey(command),
-        Err(refusal) => refused(refusal, 0, 0),
+        Err(refusal) => Answer::refused(refusal, 0, 0),
     }
 }
 
 // The same, with the answer in its 32 bytes.
 pub fn answer<B: Ledger>(book: &mut B, bytes: &[u8]) -> [u8; 32]
-    requires { B.Ledger.sound book.old }
-    ensures sound { B.Ledger.sound book.new }
-    ensures answered { Answered (B.Ledger.view book.old) bytes.now result (B.Ledger.view book.new) }
+    ensures { Answered (B.Ledger.view book.old) bytes.now result (B.Ledger.view book.new) }
 {
     let told = serve(book, bytes);
     reply(code_of(bytes), told)
@@ -38,17 +33,12 @@ pub fn answer<B: Ledger>(book: &mut B, bytes: &[u8]) -> [u8; 32]
 // Answers the commands of a script one after another and tells how many answers it wrote. A last part
 // under 32 bytes is answered too.
 pub fn run<B: Ledger>(book: &mut B, script: &[u8], answers: &mut [u8]) -> usize
-    requires sound { B.Ledger.sound book.old }
-    requires room { 32 * parts (length script.now) ≤ length answers.old }
-    ensures sound { B.Ledger.sound book.new }
+    requires { 32 * parts (length script.now) ≤ length answers.old }
     ensures count { result ≡ parts (length script.now) }
     ensures ran { Ran (B.Ledger.view book.old) script.now answers.old result answers.new (B.Ledger.view book.new) }
 {
-    let count = script.len().div_ceil(32);
-    for i in 0..count {
-        let end = (32 * i + 32).min(script.len());
-        let bytes = answer(book, &script[32 * i..end]);
-        answers[32 * i..32 * i + 32].copy_from_slice(&bytes);
+    for (i, part) in script.chunks(32).enumerate() {
+        answers[32 * i..32 * i + 32].copy_from_slice(&answer(book, part));
     }
-    count
+    script.len().div_ceil(32)
 }

@@ -9,17 +9,18 @@
 --   put-…, without-…      changes to one of two joined lists
 --   three_long            below, at and above make up the length
 --   put_long, without_long the lengths after a change
---   first_append, final_append the first and the last entry of two joined lists
+--   final_append          the last entry of two joined lists
 --   …-past                each filter at a first entry below the key
 --   between-…             spans of joined lists
 use Rattle.std.proofs.Common.{◌≡◌, ℕ, ◌+◌, ◌<◌, ◌≤◌, Bool, true, false, eqb, ltb, leb, List, [], ◌∷◌, ◌++◌, length, filter, sym, refl, ap, ◌∙◌, inl, inr, append_assoc, arith, length-append}
 use Rattle.std.specs.List.{AllByRecursion}
 use Rattle.std.proofs.lemmas.List.Elements.{filter-append}
+use Rattle.std.proofs.lemmas.List.Sums.{length-filter, count_by-le-length}
 use Rattle.std.proofs.ByRecursion.{all_kept_by}
 use Rattle.std.proofs.lemmas.List.{append-nil}
-use Rattle.std.proofs.lemmas.Bool.{lt-ltb, le-ltb, le-leb, lt-leb, eq-eqb, ne_eqb, cond-true, cond-false, cond_both, cases_order}
+use Rattle.std.proofs.lemmas.Bool.{lt-ltb, le-ltb, le-leb, lt-leb, eq-eqb, ne_eqb, cond-true, cond-false, cases_order}
 use Rattle.entry.specs.declared.Entry.{Entry}
-use Rattle.entry.specs.Lists.{below, at, above, from, upto, between, put, without, filled, first, final, Over, Under}
+use Rattle.entry.specs.Lists.{below, at, above, from, upto, between, put, without, final, Over, Under}
 
 pub kept_all : {X : Type 0} (p : X → Bool) (P : X → Type 0) → ((x : X) → P x → p x ≡ true) → (xs : List X) → AllByRecursion P xs → filter p xs ≡ xs
 kept_all p P f [] h = refl
@@ -30,8 +31,7 @@ kept_none p P f [] h = refl
 kept_none p P f (x ∷ xs) h = cond-false (p x) _ _ (f x h.0) ∙ kept_none p P f xs h.1
 
 pub kept_short : {X : Type 0} (p : X → Bool) (xs : List X) → length (filter p xs) ≤ length xs
-kept_short p [] = omega arith
-kept_short p (x ∷ xs) = cond_both (p x) (x ∷ filter p xs) (filter p xs) (λ z. length z ≤ length (x ∷ xs)) (λ t. omega (arith, kept_short p xs)) (λ t. omega (arith, kept_short p xs))
+kept_short p xs = omega (arith, length-filter p xs, count_by-le-length p xs)
 
 pub front_only : {X : Type 0} (p : X → Bool) (xs ys : List X) → filter p ys ≡ [] → filter p (xs ++ ys) ≡ filter p xs
 front_only p xs ys e = filter-append p xs ys ∙ ap (λ z. filter p xs ++ z) e ∙ append-nil (filter p xs)
@@ -159,10 +159,6 @@ without_long k xs = omega (arith, length-append (below k xs) (above k xs), three
 -- the entries of a span, in two steps
 pub between_append : (a b : ℕ) (xs ys : List Entry) → between a b (xs ++ ys) ≡ between a b xs ++ between a b ys
 between_append a b xs ys = ap (from a) (filter-append _ xs ys) ∙ filter-append _ (upto b xs) (upto b ys)
-
-pub first_append : (xs ys : List Entry) → filled xs ≡ true → first (xs ++ ys) ≡ first xs
-first_append [] ys h = absurd (let z : ◌≡◌ {A = ℕ} 0 1 = cc in omega arith)
-first_append (x ∷ xs) ys h = refl
 
 pub final_append : (xs : List Entry) (y : Entry) (ys : List Entry) → final (xs ++ y ∷ ys) ≡ final (y ∷ ys)
 final_append [] y ys = refl

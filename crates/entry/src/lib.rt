@@ -1,7 +1,7 @@
 // What an index holds: a key, by its bits, and a note.
 #![tactic(auto)]
 
-#[derive(Clone, Copy)]
+#[derive(Clone, Copy, Debug, Default, Eq, PartialEq)]
 pub struct Entry {
     pub key: u64,
     pub note: u64,

@@ -31,7 +31,7 @@ use Rattle.runs.specs.States.{Answered, Step, visits}
 use Rattle.runs.proofs.Made.{Obeys, step_made}
 use Rattle.inside.specs.declared.Inside.{Inside}
 use Rattle.inside.specs.declared.Rebuilt.{Rebuilt}
-use Rattle.inside.specs.Answers.{no_of}
+use Rattle.ordered.specs.Answers.{no_of}
 use Rattle.inside.specs.Changing.{with_entry, Entered}
 use Rattle.inside.specs.Whole.{Whole, state_of}
 use Rattle.inside.proofs.Parts.{held_in, planted, laid}

@@ -12,7 +12,8 @@ use Rattle.ordered.specs.declared.refusal.Refusal.TheVariants.{Shut, TooLarge}
 use Rattle.ordered.specs.Sorted.{misfit, large}
 use Rattle.runs.specs.States.{Answered, Step}
 use Rattle.inside.specs.declared.Inside.{Inside}
-use Rattle.inside.specs.Answers.{no_of, bars}
+use Rattle.ordered.specs.Answers.{no_of}
+use Rattle.inside.specs.Answers.{bars}
 use Rattle.inside.specs.Whole.{Whole, Sound, Does, Unless, state_of}
 use Rattle.inside.proofs.Quiet.{barred_step, one_key}
 

@@ -22,7 +22,7 @@ use Rattle.rows.proofs.Served.{InRow, find_served, find_path, next_served, next_
 use Rattle.runs.specs.States.{Answered, Step, told_by, visits}
 use Rattle.runs.proofs.Made.{Obeys, step_made}
 use Rattle.inside.specs.declared.Inside.{Inside}
-use Rattle.inside.specs.Answers.{no_of, reply_of}
+use Rattle.ordered.specs.Answers.{no_of, reply_of}
 use Rattle.inside.specs.Whole.{Whole, state_of}
 use Rattle.inside.proofs.Parts.{planted, laid, held_in}
 

@@ -23,7 +23,8 @@ use Rattle.rows.proofs.Served.{InRow, range_served}
 use Rattle.runs.specs.States.{Answered, Step, told_by, visits}
 use Rattle.runs.proofs.Made.{Obeys, step_made}
 use Rattle.inside.specs.declared.Inside.{Inside}
-use Rattle.inside.specs.Answers.{no_of, bars}
+use Rattle.ordered.specs.Answers.{no_of}
+use Rattle.inside.specs.Answers.{bars}
 use Rattle.inside.specs.Spans.{since, onward, over}
 use Rattle.inside.specs.Whole.{Whole, state_of}
 use Rattle.inside.proofs.Parts.{planted, laid}

@@ -13,8 +13,8 @@ use Rattle.runs.specs.Runs.{ended}
 use Rattle.runs.proofs.Chains.{run_more}
 use Rattle.runs.proofs.Laws.{general}
 use Rattle.inside.specs.declared.Inside.{Inside}
-use Rattle.inside.specs.Answers.{no_of}
-use Rattle.inside.specs.Whole.{Whole, Sound, Does, Unless, state_of}
+use Rattle.ordered.specs.Answers.{no_of}
+use Rattle.inside.specs.Whole.{Whole, Does, Unless, state_of}
 use Rattle.inside.specs.Runs.{Handed, Went, Ran}
 use Rattle.inside.proofs.Parts.{sound_state}
 
@@ -55,7 +55,6 @@ went_more false w limit σ τ σ' ps qs qs' cs rs c a h d =
 
 -- ---- between two calls
 pub record Running (w : ℕ) (cs : List Call) (old : List Answer) (ps : List Entry) (f₀ : Pairs) (room₀ tally₀ : ℕ) (i₀ : Inside) (n : ℕ) (rs : List Answer) (qs : List Entry) (f : Pairs) (room' tally : ℕ) (i : Inside) : Type 0 where
-  pub sound : Sound w f room' tally i
   pub limit : i.limit ≡ i₀.limit
   pub shut : i.shut ≡ i₀.shut
   pub room : room' ≡ room₀
@@ -63,8 +62,8 @@ pub record Running (w : ℕ) (cs : List Call) (old : List Answer) (ps : List Ent
   pub went : Went i₀.shut w i₀.limit (state_of f₀ tally₀ i₀) ps (take n cs) (take n rs) (state_of f tally i) qs
 
 module _ (w : ℕ) (cs : List Call) (old : List Answer) (ps : List Entry) (f₀ : Pairs) (room₀ tally₀ : ℕ) (i₀ : Inside) where
-  pub running : Sound w f₀ room₀ tally₀ i₀ → Running w cs old ps f₀ room₀ tally₀ i₀ 0 old ps f₀ room₀ tally₀ i₀
-  running so = record { sound = so; limit = refl; shut = refl; room = refl; rest = refl; went = went_none i₀.shut w i₀.limit (state_of f₀ tally₀ i₀) ps }
+  pub running : Running w cs old ps f₀ room₀ tally₀ i₀ 0 old ps f₀ room₀ tally₀ i₀
+  running = record { limit = refl; shut = refl; room = refl; rest = refl; went = went_none i₀.shut w i₀.limit (state_of f₀ tally₀ i₀) ps }
 
   module _ (n : ℕ) (rs : List Answer) (qs : List Entry) (f : Pairs) (room tally : ℕ) (i : Inside) (r : Running w cs old ps f₀ room₀ tally₀ i₀ n rs qs f room tally i) where
     rest_more : (a : Answer) → drop (n + 1) (set rs n a) ≡ drop (n + 1) old
@@ -72,10 +71,10 @@ module _ (w : ℕ) (cs : List Call) (old : List Answer) (ps : List Entry) (f₀ 
 
     pub runs_on : (d : Call) (a : Answer) (qs' : List Entry) (f' : Pairs) (room' tally' : ℕ) (i' : Inside) →
         n < length cs → n < length rs →
-        Sound w f' room' tally' i' → i'.limit ≡ i.limit → i'.shut ≡ i.shut → room' ≡ room →
+        i'.limit ≡ i.limit → i'.shut ≡ i.shut → room' ≡ room →
         Does i.shut w i.limit (state_of f tally i) (get_or cs n d) qs (with_places a qs') (state_of f' tally' i') →
         Running w cs old ps f₀ room₀ tally₀ i₀ (n + 1) (set rs n a) qs' f' room' tally' i'
-    runs_on d a qs' f' room' tally' i' h k so l s o does =
+    runs_on d a qs' f' room' tally' i' h k l s o does =
         let c = get_or cs n d in
         let σ = state_of f₀ tally₀ i₀ in
         let one : Does i₀.shut w i₀.limit (state_of f tally i) c qs (with_places a qs') (state_of f' tally' i') =
@@ -83,7 +82,6 @@ module _ (w : ℕ) (cs : List Call) (old : List Answer) (ps : List Entry) (f₀ 
         (subst (λ x. Does i.shut w x (state_of f tally i) c qs (with_places a qs') (state_of f' tally' i')) r.limit does) in
         let more = went_more i₀.shut w i₀.limit σ (state_of f tally i) (state_of f' tally' i') ps qs qs' (take n cs) (take n rs) c a r.went one in
         record {
-          sound = so;
           limit = l ∙ r.limit;
           shut = s ∙ r.shut;
           room = o ∙ r.room;

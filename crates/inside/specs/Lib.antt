@@ -7,3 +7,4 @@ pub mod Runs
 pub mod Spans
 pub mod Views
 pub mod Whole
+pub mod Props

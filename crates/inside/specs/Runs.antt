@@ -23,7 +23,7 @@ use Rattle.trees.specs.Trees.{leaf}
 use Rattle.runs.specs.States.{State, Answered}
 use Rattle.runs.specs.Runs.{Run}
 use Rattle.runs.specs.Law.{Law, General}
-use Rattle.inside.specs.Answers.{no_of}
+use Rattle.ordered.specs.Answers.{no_of}
 
 abbrev pub made : List Call → List Answer → ℕ
 made cs rs = min (length cs) (length rs)

@@ -18,7 +18,7 @@ use Rattle.trie.specs.Sound.{Sound as TrieSound}
 use Rattle.forest.specs.Forests.{row_of, grove_of}
 use Rattle.runs.specs.States.{State, Answered, Step}
 use Rattle.inside.specs.declared.Inside.{Inside}
-use Rattle.inside.specs.Answers.{no_of}
+use Rattle.ordered.specs.Answers.{no_of}
 
 abbrev pub state_of : Pairs → ℕ → Inside → State
 state_of f n i = record { buckets = row_of i.grove.table i.grove.pool; trees = grove_of i.grove.table i.grove.pool; pairs = f; tally = n }

@@ -2,4 +2,3 @@ pub mod Widths
 pub mod Kinds
 pub mod Same
 pub mod Within
-pub mod NameKeyLemmas

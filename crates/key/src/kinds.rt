@@ -1,16 +1,17 @@
 // The four kinds of keys: how they are made and read. Their numbers stay inside the ranges that the
-// ghost fields say, so that a key is always one of its kind's 2^w.
+// ghost fields say, so that a key is always one of its kind's 2^w. Their derived order is the kind's own.
+// They are made by `new` and `from_text` alone: `From` and `TryFrom` would be second names for these.
 ghost use Rattle.std.specs.Prelude.{◌≡◌, ℕ, ◌^◌, ◌<◌, ◌≤◌, length, MatchOption, slice_index};
 
 // A zone across the blade.
-#[derive(Clone, Copy)]
+#[derive(Clone, Copy, PartialEq, Eq, PartialOrd, Ord, Debug)]
 pub struct Zone {
     pub(crate) number: u8,
     ghost fits: { number < 2 ^ 8 },
 }
 
 // A place along a piste, in decimetres.
-#[derive(Clone, Copy)]
+#[derive(Clone, Copy, PartialEq, Eq, PartialOrd, Ord, Debug)]
 pub struct Station {
     pub(crate) piste: u8,
     pub(crate) decimetre: u32,
@@ -18,7 +19,7 @@ pub struct Station {
 }
 
 // A second, and a sequence number within it.
-#[derive(Clone, Copy)]
+#[derive(Clone, Copy, PartialEq, Eq, PartialOrd, Ord, Debug)]
 pub struct Moment {
     pub(crate) second: u32,
     pub(crate) sequence: u16,
@@ -26,7 +27,7 @@ pub struct Moment {
 }
 
 // Seven bytes, filled with zero bytes at the end.
-#[derive(Clone, Copy)]
+#[derive(Clone, Copy, PartialEq, Eq, PartialOrd, Ord, Debug)]
 pub struct Name {
     pub(crate) bytes: [u8; 7],
     ghost long: { length bytes ≡ 7 },
@@ -107,9 +108,7 @@ impl Name {
             return None;
         }
         let mut bytes = [0; 7];
-        for (i, byte) in text.iter().enumerate() {
-            bytes[i] = *byte;
-        }
+        bytes[..text.len()].copy_from_slice(text);
         Some(Name::new(bytes))
     }
 

@@ -5,6 +5,7 @@
 #![tactic(auto)]
 
 ghost use Rattle.std.specs.Prelude.{◌≡◌, ℕ, ◌^◌, ◌<◌, ◌≤◌, Bool, true, is_some, Some, Option as Maybe, nat_lt};
+ghost use Rattle.std.specs.Ordering.{is_lt};
 
 pub mod kinds;
 pub mod moment;
@@ -13,8 +14,10 @@ pub mod sizes;
 pub mod station;
 pub mod zone;
 
-pub trait Key: Sized {
+pub trait Key: Sized + Ord {
     const WIDTH: u32;
+
+    ghost WIDTH: { ℕ };
 
     ghost width: { ℕ };
 
@@ -27,7 +30,10 @@ pub trait Key: Sized {
     ghost before: { Self → Self → Bool };
 
     fn bit_width() -> u32
-        ensures { result ≡ width };
+        ensures { result ≡ width }
+    {
+        Self::WIDTH
+    }
 
     fn to_bits(&self) -> u64
         ensures { result ≡ bits self.now };
@@ -37,7 +43,16 @@ pub trait Key: Sized {
         ensures { result ≡ key number };
 
     fn is_before(&self, other: &Self) -> bool
-        ensures { result ≡ before self.now other.now };
+        ensures { result ≡ before self.now other.now }
+    {
+        self < other
+    }
+
+    // the constant is the width
+    ghost constant: { WIDTH ≡ width };
+
+    // the derived order is the kind's own
+    ghost compared: { (a b : Self) → is_lt (Self.Ord.cmp a b) ≡ before a b };
 
     ghost wide: { (8 ≤ width) × (width ≤ 60) };
 

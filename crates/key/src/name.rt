@@ -1,18 +1,19 @@
 // Names: byte by byte from the first.
 ghost use Rattle.std.specs.Prelude.{◌≡◌, ◌^◌};
-ghost use Rattle.std.proofs.Common.{sym, ◌∙◌, rules, arith};
+ghost use Rattle.std.proofs.Common.{refl, sym, ◌∙◌, rules};
 ghost use Rattle.key.specs.Kinds.{name_bits, name_of, name_before, name_at};
-ghost use Rattle.key.specs.NameKeyLemmas.{small};
-ghost use Rattle.key.specs.Same.{name_same};
-ghost use Rattle.digits.proofs.Sevens.{seven_of, seven_back, bytes_under};
-ghost use Rattle.key.specs.Within.{within_again, within_exact, within_every};
-ghost use Rattle.digits.proofs.Order.{bytes_order};
+ghost use Rattle.key.specs.Same.{names};
+ghost use Rattle.digits.proofs.Sevens.{bytes_under};
+ghost use Rattle.key.specs.Within.{reads, within_exact, within_every};
+ghost use Rattle.digits.proofs.Order.{bytes_compared, bytes_order};
 
 use crate::Key;
 use crate::kinds::Name;
 
 impl Key for Name {
     const WIDTH: u32 = 56;
+
+    ghost WIDTH = { 56 };
 
     ghost width = { 56 };
 
@@ -22,21 +23,21 @@ impl Key for Name {
 
     ghost before = { name_before };
 
+    ghost constant = { refl };
+
+    ghost compared = { λ a b. bytes_compared a.bytes b.bytes (a.long ∙ sym b.long) };
+
     ghost wide = { Prim.search rules };
 
-    ghost below = { λ k. small k };
+    ghost below = { names.below };
 
-    ghost again = { λ k. within_again (2 ^ 56) name_at (name_bits k) k (small k) (name_same _ _ (seven_of k.bytes k.long k.fits)) };
+    ghost again = { λ k. reads names _ k refl };
 
-    ghost exact = { λ n k e. within_exact (2 ^ 56) name_at name_bits seven_back n k e };
+    ghost exact = { within_exact _ _ _ names.back };
 
-    ghost every = { λ n h. within_every (2 ^ 56) name_at n h };
+    ghost every = { within_every (2 ^ 56) name_at };
 
     ghost ordered = { λ a b. bytes_order a.bytes b.bytes (a.long ∙ sym b.long) (bytes_under a.bytes a.fits) (bytes_under b.bytes b.fits) };
-
-    fn bit_width() -> u32 {
-        Self::WIDTH
-    }
 
     fn to_bits(&self) -> u64 {
         let [a, b, c, d, e, f, g] = self.bytes;
@@ -44,20 +45,9 @@ impl Key for Name {
     }
 
     fn from_bits(number: u64) -> Option<Name> {
-        if number < 0x100_0000_0000_0000 {
-            let [_, a, b, c, d, e, f, g] = number.to_be_bytes();
-            Some(Name::new([a, b, c, d, e, f, g]))
-        } else {
-            None
-        }
-    }
-
-    fn is_before(&self, other: &Name) -> bool {
-        for i in 0..7 {
-            if self.bytes[i] != other.bytes[i] {
-                return self.bytes[i] < other.bytes[i];
-            }
-        }
-        false
+        let [0, a, b, c, d, e, f, g] = number.to_be_bytes() else {
+            return None;
+        };
+        Some(Name::new([a, b, c, d, e, f, g]))
     }
 }

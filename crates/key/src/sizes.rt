@@ -10,7 +10,7 @@ pub fn half_width<K: Key>() -> u32
     ensures bounds { (4 ≤ result) × (result ≤ 30) }
     ensures rebuilding { 4 * (K.Key.width + 1) ≤ 9 * result }
 {
-    (K::bit_width() + 1) / 2
+    K::bit_width().div_ceil(2)
 }
 
 // log2 of n, rounded up.
@@ -20,13 +20,7 @@ fn log_up(n: u32) -> u32
     ensures least { LogUp n result }
     ensures small { result ≤ 6 }
 {
-    let mut log = 0;
-    let mut power: u32 = 1;
-    while power < n {
-        power *= 2;
-        log += 1;
-    }
-    log
+    n.next_power_of_two().ilog2()
 }
 
 // q: the most frames of a level search, 1 + log2(width + 1) rounded up.

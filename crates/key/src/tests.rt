@@ -20,21 +20,27 @@ fn names_keep_every_byte(rt: HostRuntime) -> Result<(), Fail> {
         return Err(Fail::new("too long"));
     };
     assert_eq!(rt; name.to_bits(), 0x0061_225C_0000_0000);
-    let Some(back) = <Name as Key>::from_bits(name.to_bits()) else {
-        return Err(Fail::new("no name"));
-    };
-    assert_eq!(rt; back.bytes()[2], b'\\');
+    assert_eq!(rt; <Name as Key>::from_bits(name.to_bits()), Some(name));
+    assert_eq!(rt; name.bytes()[2], b'\\');
     Ok(())
 }
 
 #[test]
+fn own_orders(rt: HostRuntime) {
+    assert!(rt; Zone::new(2).is_before(&Zone::new(10)));
+    assert!(rt; Moment::new(1, 9).is_before(&Moment::new(2, 0)));
+    assert!(rt; Moment::new(2, 0).is_before(&Moment::new(2, 9)));
+    assert!(rt; !Name::new(*b"ab\0\0\0\0\0").is_before(&Name::new(*b"aa\0\0\0\0\0")));
+}
+
+#[test]
 fn what_does_not_fit(rt: HostRuntime) {
-    assert!(rt; Station::new(0, 0x100_0000).is_none());
-    assert!(rt; Name::from_text(b"eightsss").is_none());
-    assert!(rt; <Zone as Key>::from_bits(256).is_none());
-    assert!(rt; <Station as Key>::from_bits(0x1_0000_0000).is_none());
-    assert!(rt; <Moment as Key>::from_bits(0x1_0000_0000_0000).is_none());
-    assert!(rt; <Name as Key>::from_bits(0x100_0000_0000_0000).is_none());
+    assert_eq!(rt; Station::new(0, 0x100_0000), None);
+    assert_eq!(rt; Name::from_text(b"eightsss"), None);
+    assert_eq!(rt; <Zone as Key>::from_bits(256), None);
+    assert_eq!(rt; <Station as Key>::from_bits(0x1_0000_0000), None);
+    assert_eq!(rt; <Moment as Key>::from_bits(0x1_0000_0000_0000), None);
+    assert_eq!(rt; <Name as Key>::from_bits(0x100_0000_0000_0000), None);
 }
 
 #[test]

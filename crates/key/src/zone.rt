@@ -1,15 +1,17 @@
 // Zones, in numeric order.
-ghost use Rattle.std.specs.Prelude.{◌≡◌};
+ghost use Rattle.std.specs.Prelude.{◌≡◌, ◌^◌};
 ghost use Rattle.key.specs.Kinds.{zone_bits, zone_of, zone_before, zone_at};
-ghost use Rattle.std.proofs.Common.{arith, rules};
-ghost use Rattle.key.specs.Same.{zone_same};
-ghost use Rattle.key.specs.Within.{within_again, within_exact, within_every};
+ghost use Rattle.std.proofs.Common.{refl, rules};
+ghost use Rattle.key.specs.Same.{zones};
+ghost use Rattle.key.specs.Within.{reads, within_exact, within_every};
 
 use crate::Key;
 use crate::kinds::Zone;
 
 impl Key for Zone {
     const WIDTH: u32 = 8;
+
+    ghost WIDTH = { 8 };
 
     ghost width = { 8 };
 
@@ -19,35 +21,27 @@ impl Key for Zone {
 
     ghost before = { zone_before };
 
+    ghost constant = { refl };
+
+    ghost compared = { Prim.search rules };
+
     ghost wide = { Prim.search rules };
 
-    ghost below = { Prim.search rules };
+    ghost below = { zones.below };
 
-    ghost again = { λ k. within_again 256 zone_at k.number k (omega arith) (zone_same _ _ (omega arith)) };
+    ghost again = { λ k. reads zones _ k refl };
 
-    ghost exact = { λ n k e. within_exact 256 zone_at zone_bits (λ n h. omega arith) n k e };
+    ghost exact = { within_exact _ _ _ zones.back };
 
-    ghost every = { λ n h. within_every 256 zone_at n h };
+    ghost every = { within_every (2 ^ 8) zone_at };
 
     ghost ordered = { Prim.search rules };
-
-    fn bit_width() -> u32 {
-        Self::WIDTH
-    }
 
     fn to_bits(&self) -> u64 {
         self.number as u64
     }
 
     fn from_bits(number: u64) -> Option<Zone> {
-        if number < 0x100 {
-            Some(Zone::new(number as u8))
-        } else {
-            None
-        }
-    }
-
-    fn is_before(&self, other: &Zone) -> bool {
-        self.number < other.number
+        Some(Zone::new(u8::try_from(number).ok()?))
     }
 }

@@ -19,7 +19,8 @@ use Rattle.ordered.specs.declared.refusal.Refusal.TheVariants.{Absent, Full, Not
 use Rattle.ordered.specs.Sorted.{no_find, no_add, tells, keeps}
 use Rattle.ordered.specs.Meaning.{View, Stepped, Lawful}
 use Rattle.leases.specs.Checks.{unfit}
-use Rattle.leases.specs.Plans.{Planned, refusal, together}
+use Rattle.ordered.specs.Answers.{no_of}
+use Rattle.leases.specs.Plans.{Planned, together}
 use Rattle.leases.specs.Stretches.{end, holder_of, entered, Noted, Spaced, sharing, Leased}
 use Rattle.leases.specs.Commands.{lease_plan, release_plan, who_plan, due_plan}
 use Rattle.leases.proofs.Planning.{Seven, Quiet, refuse_early, refuse_after, quiet_call, two_calls}
@@ -66,7 +67,7 @@ from_zero (x ∷ xs) = rw (le-leb 0 x.key (omega arith)) (ap (λ (ys : List Entr
 
 -- ---- lease
 module _ (v : View) (law : Lawful 32 v) (ok : Leased v) (f t h : ℕ) (bounds : (0 < h) × (h < 2 ^ 32)) (ends : unfit f t ≡ None) where
-  pub lease_full : v.limit ≤ length v.entries → Planned v (lease_plan v f t h) (refusal Full 0 0) v
+  pub lease_full : v.limit ≤ length v.entries → Planned v (lease_plan v f t h) (no_of Full 0 0) v
   unfolding lease_plan
   lease_full e = rw (le-leb v.limit (length v.entries) e) (refuse_early v Full (seven 32 v (omega arith) (omega arith) law))
 
@@ -86,7 +87,7 @@ module _ (v : View) (law : Lawful 32 v) (ok : Leased v) (f t h : ℕ) (bounds : 
         let P : Entry → Type 0 = λ e. e.key < 2 ^ 32 in
         subst P found.same (final_small (upto t v.entries) (spaced_upto v.entries t ok.spaced) found.some).small
 
-    pub lease_shared : (x : Entry) → a.outcome ≡ Ok x → f ≤ end x → Planned v (lease_plan v f t h) (refusal Shared a.frames a.visits) u
+    pub lease_shared : (x : Entry) → a.outcome ≡ Ok x → f ≤ end x → Planned v (lease_plan v f t h) (no_of Shared a.frames a.visits) u
     unfolding lease_plan
     lease_shared x o e =
         let found = last_found v u t a ok.unshut high st x o in
@@ -138,7 +139,7 @@ module _ (v : View) (law : Lawful 32 v) (ok : Leased v) (f h : ℕ) (small : f <
       let missed = find_absent v u f a ok.unshut short st r o in
       rw missed.empty (quiet_call v u (Find f) a (Err Absent) (seven 32 v (omega arith) (omega arith) law) quiet_release (o ∙ ap Err (sym missed.same)))
 
-  pub release_other : (x : Entry) → a.outcome ≡ Ok x → (holder_of x ≡ h → ⊥) → Planned v (release_plan v f h) (refusal Holder a.frames a.visits) u
+  pub release_other : (x : Entry) → a.outcome ≡ Ok x → (holder_of x ≡ h → ⊥) → Planned v (release_plan v f h) (no_of Holder a.frames a.visits) u
   unfolding release_plan
   release_other x o ne =
       let found = find_held v u f a ok.unshut short st x o in
@@ -174,15 +175,15 @@ module _ (v : View) (law : Lawful 32 v) (ok : Leased v) (s : ℕ) (small : s < 2
       let P : Entry → Type 0 = λ e. e.key < 2 ^ 32 in
       subst P found.same (final_small (upto s v.entries) (spaced_upto v.entries s ok.spaced) found.some).small
 
-  nobody : Free v.entries s s → Planned v (who_plan v s) (refusal Absent a.frames a.visits) u
+  nobody : Free v.entries s s → Planned v (who_plan v s) (no_of Absent a.frames a.visits) u
   unfolding who_plan
   nobody free =
       rw (none_sharing v.entries ok.spaced s s (not_reached v.entries ok.spaced s s free)) (refuse_after v u (Last s) a Absent (seven 32 v (omega arith) (omega arith) law) quiet_who)
 
-  pub who_none : (r : Refusal) → a.outcome ≡ Err r → Planned v (who_plan v s) (refusal Absent a.frames a.visits) u
+  pub who_none : (r : Refusal) → a.outcome ≡ Err r → Planned v (who_plan v s) (no_of Absent a.frames a.visits) u
   who_none r o = nobody (inl (last_missed v u s a ok.unshut near st r o).empty)
 
-  pub who_short : (x : Entry) → a.outcome ≡ Ok x → end x < s → Planned v (who_plan v s) (refusal Absent a.frames a.visits) u
+  pub who_short : (x : Entry) → a.outcome ≡ Ok x → end x < s → Planned v (who_plan v s) (no_of Absent a.frames a.visits) u
   who_short x o e = nobody (inr (rw (last_found v u s a ok.unshut near st x o).same e))
 
   pub who_found : (x : Entry) → a.outcome ≡ Ok x → s ≤ end x → Planned v (who_plan v s) a u
@@ -213,7 +214,7 @@ module _ (v : View) (law : Lawful 48 v) (unshut : v.shut ≡ false) (m : ℕ) (u
   first_found : (x : Entry) → a.outcome ≡ Ok x → Found v.entries (first v.entries) x
   first_found x o = rw from_zero at (next_found v u 0 a unshut zero_fits st x o)
 
-  pub due_later : (x : Entry) → a.outcome ≡ Ok x → m < x.key → Planned v (due_plan v m) (refusal Later a.frames a.visits) u
+  pub due_later : (x : Entry) → a.outcome ≡ Ok x → m < x.key → Planned v (due_plan v m) (no_of Later a.frames a.visits) u
   unfolding due_plan
   due_later x o e =
       let found = first_found x o in

@@ -20,7 +20,8 @@ use Rattle.ordered.specs.declared.calls.Rebuilding.TheVariants.{Unchanged}
 use Rattle.ordered.specs.declared.refusal.Refusal.{Refusal}
 use Rattle.ordered.specs.Sorted.{Listed, no_add, no_find, no_near, no_range, tells, writes, misfit, fitting, listed, unless as listed_unless, changed}
 use Rattle.ordered.specs.Meaning.{View, Stepped, answers, told}
-use Rattle.leases.specs.Plans.{Plan, Steps, none, next, Planned, frames_of, visits_of, rebuilding_of, changes_of, refusal, together, turned_away, call_plan}
+use Rattle.ordered.specs.Answers.{no_of}
+use Rattle.leases.specs.Plans.{Plan, Steps, none, next, Planned, frames_of, visits_of, rebuilding_of, changes_of, together, turned_away, call_plan}
 
 -- an index whose searches take at most seven frames, below the top of its tally
 pub record Seven (v : View) : Type 0 where
@@ -96,8 +97,8 @@ carried_out v v' p r rs s st sums o e n =
       still = λ z. let k = all.still (n ∙ z) in (sums.rebuilding ∙ k.0, k.1, k.2, k.3);
     }
 
-pub refuse_early : (v : View) (e : Refusal) → Seven v → Planned v (turned_away e [] v) (refusal e 0 0) v
-refuse_early v e s = carried_out v v (turned_away e [] v) (refusal e 0 0) [] s none (record { number = refl; frames = refl; visits = refl; rebuilding = refl }) refl refl refl
+pub refuse_early : (v : View) (e : Refusal) → Seven v → Planned v (turned_away e [] v) (no_of e 0 0) v
+refuse_early v e s = carried_out v v (turned_away e [] v) (no_of e 0 0) [] s none (record { number = refl; frames = refl; visits = refl; rebuilding = refl }) refl refl refl
 
 -- a call that changes nothing
 pub record Quiet (v : View) (c : Call) (a : Answer) (u : View) : Type 0 where
@@ -109,9 +110,9 @@ pub record Quiet (v : View) (c : Call) (a : Answer) (u : View) : Type 0 where
 one_sums : (a : Answer) → a.number ≡ 0 → Sums a (a ∷ [])
 one_sums a n = record { number = n; frames = omega arith; visits = omega arith; rebuilding = refl }
 
-pub refuse_after : (v u : View) (c : Call) (a : Answer) (e : Refusal) → Seven v → Quiet v c a u → Planned v (turned_away e (c ∷ []) v) (refusal e a.frames a.visits) u
+pub refuse_after : (v u : View) (c : Call) (a : Answer) (e : Refusal) → Seven v → Quiet v c a u → Planned v (turned_away e (c ∷ []) v) (no_of e a.frames a.visits) u
 refuse_after v u c a e s q =
-    carried_out v u (turned_away e (c ∷ []) v) (refusal e a.frames a.visits) (a ∷ []) s (next q.step none)
+    carried_out v u (turned_away e (c ∷ []) v) (no_of e a.frames a.visits) (a ∷ []) s (next q.step none)
     (record { number = refl; frames = omega arith; visits = omega arith; rebuilding = sym (q.step.still q.unchanged).0 }) refl q.entries (omega (arith, q.unchanged))
 
 pub quiet_call : (v u : View) (c : Call) (a : Answer) (o : Result Entry Refusal) → Seven v → Quiet v c a u → a.outcome ≡ o →

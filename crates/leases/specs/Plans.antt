@@ -6,7 +6,6 @@
 --   rebuilding_of   the rebuilding of the last call made, which is the only one that can change entries
 --   changes_of      how many of the calls changed entries
 --   Planned         a plan carried out: the answer, the calls made, the index after them
---   refusal         an answer that refuses, after some frames and visits
 --   together        what a second call tells, with the frames and visits of both
 --   turned_away     the plan of a refusal after some calls
 --   unless          a refusal before the first frame, or a plan
@@ -71,9 +70,6 @@ pub record Planned (v : View) (p : Plan) (r : Answer) (v' : View) : Type 0 where
   pub still : p.changes ≡ 0 → (r.rebuilding ≡ Unchanged) × (v'.pairs ≡ v.pairs) × (v'.credit ≡ v.credit) × (v'.cost ≡ v.cost)
 
 -- ---- answers
-abbrev pub refusal : Refusal → ℕ → ℕ → Answer
-refusal e f s = record { outcome = Err e; number = 0; frames = f; visits = s; rebuilding = Unchanged }
-
 abbrev pub together : Answer → Answer → Answer
 together a b = record { outcome = b.outcome; number = 0; frames = a.frames + b.frames; visits = a.visits + b.visits; rebuilding = b.rebuilding }
 

@@ -5,6 +5,7 @@
 --   entered             the entry of a lease from one station to another by a holder
 --   Noted               an entry that is a lease: it ends on its piste and not before its start, and has a holder
 --   Spaced              leases one after another, each ended before the next one starts
+--   Spaced-prop         that has one proof at most
 --   shares f t x        the lease x has a station from f to t
 --   sharing f t xs      the leases that have one
 --   Covers              a station lies in a lease
@@ -12,6 +13,8 @@
 --   Leased              a lease index that is not shut
 use Rattle.std.specs.Prelude.{◌≡◌, ℕ, ◌+◌, ◌*◌, ◌/◌, ◌%◌, ◌^◌, ◌<◌, ◌≤◌, Bool, false, ◌&&◌, List, [], ◌∷◌, length, filter, nat_le, slice_index_or}
 use Rattle.std.specs.List.{AllByRecursion}
+use Rattle.std.specs.Coded.{Unit-prop}
+use Rattle.std.proofs.Props.{props}
 use Rattle.entry.specs.declared.Entry.{Entry}
 use Rattle.entry.specs.Lists.{blank}
 use Rattle.ordered.specs.Meaning.{View}
@@ -34,6 +37,10 @@ pub record Noted (e : Entry) : Type 0 where
 abbrev pub Spaced : List Entry → Type 0
 Spaced [] = Unit {0}
 Spaced (x ∷ xs) = Noted x × AllByRecursion (λ (y : Entry). end x < y.key) xs × Spaced xs
+
+pub Spaced-prop : (xs : List Entry) → IsProp (Spaced xs)
+Spaced-prop [] = Unit-prop
+Spaced-prop (x ∷ xs) = Prim.hlevel (Spaced-prop xs, props)
 
 abbrev pub shares : ℕ → ℕ → Entry → Bool
 shares f t x = nat_le x.key t && nat_le f (end x)

@@ -1,21 +1,8 @@
 // Answers of commands, made from those of the index calls.
 ghost use Rattle.std.specs.Prelude.{◌≡◌, ◌≤◌};
-ghost use Rattle.leases.specs.Plans.{refusal, together};
+ghost use Rattle.leases.specs.Plans.{together};
 
-use ordered::{Answer, Rebuilding, Refusal};
-
-// A refusal, after some frames and visits.
-pub fn refused(reason: Refusal, frames: u16, visits: u16) -> Answer
-    ensures { result ≡ refusal reason frames visits }
-{
-    Answer {
-        outcome: Err(reason),
-        number: 0,
-        frames,
-        visits,
-        rebuilding: Rebuilding::Unchanged,
-    }
-}
+use ordered::Answer;
 
 // What a second call tells, with the frames and visits of both.
 pub fn joined(before: Answer, after: Answer) -> Answer

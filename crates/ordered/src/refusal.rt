@@ -2,73 +2,53 @@
 ghost use Rattle.std.specs.Prelude.{◌≡◌};
 ghost use Rattle.ordered.specs.Numbers.{number};
 
-#[derive(Clone, Copy)]
+#[derive(Clone, Copy, PartialEq, Eq, Debug)]
 pub enum Refusal {
     // An index of no entries, or of more than 512.
-    Limit,
+    Limit = 1,
     // The pairs that the limit asks for exceed the dictionary's capacity.
-    Capacity,
+    Capacity = 2,
     // The dictionary holds a pair, or has made a frame.
-    Used,
+    Used = 3,
     // The index, or one index of the book, is shut.
-    Shut,
+    Shut = 4,
     // A load onto a book with an entry.
-    Standing,
+    Standing = 5,
     // A command or a load of the wrong length.
-    Length,
+    Length = 6,
     // An unknown code, an unused field that is not zero, a holder out of bounds.
-    Malformed,
+    Malformed = 7,
     // A load's record out of its sequence.
-    Sequence,
+    Sequence = 8,
     // A key of 2^w or more.
-    TooLarge,
+    TooLarge = 9,
     // A first key above the second.
-    Order,
+    Order = 10,
     // A lease that ends on another piste.
-    Piste,
+    Piste = 11,
     // An add of a key that is held.
-    Held,
+    Held = 12,
     // No such entry.
-    Absent,
+    Absent = 13,
     // An add at the limit.
-    Full,
+    Full = 14,
     // No entry at or above a key, or at or below it.
-    Nothing,
+    Nothing = 15,
     // More entries, or a longer save, than there is room for.
-    Room,
+    Room = 16,
     // A lease that shares a station with a standing one.
-    Shared,
+    Shared = 17,
     // A release by another holder.
-    Holder,
+    Holder = 18,
     // The earliest event is later.
-    Later,
+    Later = 19,
 }
 
 impl Refusal {
     pub fn number(self) -> u8
         ensures { result ≡ number self }
     {
-        match self {
-            Refusal::Limit => 1,
-            Refusal::Capacity => 2,
-            Refusal::Used => 3,
-            Refusal::Shut => 4,
-            Refusal::Standing => 5,
-            Refusal::Length => 6,
-            Refusal::Malformed => 7,
-            Refusal::Sequence => 8,
-            Refusal::TooLarge => 9,
-            Refusal::Order => 10,
-            Refusal::Piste => 11,
-            Refusal::Held => 12,
-            Refusal::Absent => 13,
-            Refusal::Full => 14,
-            Refusal::Nothing => 15,
-            Refusal::Room => 16,
-            Refusal::Shared => 17,
-            Refusal::Holder => 18,
-            Refusal::Later => 19,
-        }
+        self as u8
     }
 }
 

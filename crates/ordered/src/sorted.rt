@@ -3,8 +3,6 @@ ghost use Rattle.ordered.specs.Runs.{ListsAgree};
 
 use key::Key;
 
-pub fn lists_agree<K: Key>() -> u8
+pub fn lists_agree<K: Key>()
     ensures { ListsAgree (record { width = K.Key.width; bits = K.Key.bits; key = K.Key.key; before = K.Key.before }) }
-{
-    0
-}
+{}

@@ -8,64 +8,46 @@ ghost use Rattle.rules.specs.Tracks.{Tracks};
 use key::Key;
 
 // Sizes, order and number of the buckets after every run.
-pub fn buckets_keep() -> u8
+pub fn buckets_keep()
     ensures { BucketsKeep }
-{
-    0
-}
+{}
 
 // Changes pay for the rebuildings, from any sound buckets on.
-pub fn rebuildings_rare() -> u8
+pub fn rebuildings_rare()
     ensures { RebuildingsRare }
-{
-    0
-}
+{}
 
 // Calls and changes pay for the frames, from any sound buckets on.
-pub fn frames_bounded() -> u8
+pub fn frames_bounded()
     ensures { FramesBounded }
-{
-    0
-}
+{}
 
 // The frames of a single call, and that without a rebuilding the representatives stand.
-pub fn calls_bounded() -> u8
+pub fn calls_bounded()
     ensures { CallsBounded }
-{
-    0
-}
+{}
 
 // The two bounds on a new index.
-pub fn new_runs() -> u8
+pub fn new_runs()
     ensures { NewRuns }
-{
-    0
-}
+{}
 
 // The buckets answer as the sorted list of their entries.
-pub fn as_a_list() -> u8
+pub fn as_a_list()
     ensures { AsAList }
-{
-    0
-}
+{}
 
 // A new index answers as the sorted list of the kind's own keys.
-pub fn as_own_list<K: Key>() -> u8
+pub fn as_own_list<K: Key>()
     ensures { AsOwnList (record { width = K.Key.width; bits = K.Key.bits; key = K.Key.key; before = K.Key.before }) }
-{
-    0
-}
+{}
 
 // The level search answers the key's bucket.
-pub fn search_finds() -> u8
+pub fn search_finds()
     ensures { SearchFinds }
-{
-    0
-}
+{}
 
 // The cases worked out on the test track.
-pub fn tracks_hold() -> u8
+pub fn tracks_hold()
     ensures { Tracks }
-{
-    0
-}
+{}

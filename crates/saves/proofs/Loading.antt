@@ -1,12 +1,13 @@
 -- A whole load: what it tries, its frames, and the bytes that a save writes after it.
-use Rattle.std.proofs.Common.{◌≡◌, ℕ, ◌*◌, ◌%◌, ◌≤◌, true, false, eqb, List, [], ◌∷◌, ◌++◌, length, Some, None, Option, sym, refl, ap, ◌∙◌, subst, inl, inr, arith, length-append, take_all}
+use Rattle.std.proofs.Common.{◌≡◌, ℕ, ◌*◌, ◌%◌, ◌≤◌, true, false, eqb, List, [], ◌∷◌, ◌++◌, length, Some, None, Ok, Err, Option, sym, refl, ap, ◌∙◌, subst, inl, inr, arith, length-append, take_all}
 use Rattle.std.proofs.lemmas.Bool.{cases_Bool, eqb-true, eq-eqb}
 use Rattle.ordered.specs.declared.refusal.Refusal.{Refusal}
 use Rattle.book.specs.Books.{BookView, shut}
 use Rattle.book.specs.Runs.{Turn, frames, changes, piece}
 use Rattle.book.proofs.Summing.{Adds, adds_none, adds_then, adds_frames}
 use Rattle.book.proofs.Running.{frames_push, changes_push}
-use Rattle.saves.specs.declared.load.Loaded.{Loaded}
+use Rattle.std.specs.Result.{result_err, OnOk}
+use Rattle.saves.specs.Loads.{Loaded, taken}
 use Rattle.saves.specs.declared.load.Refused.{Refused}
 use Rattle.saves.specs.Saves.{saved, records}
 use Rattle.saves.specs.Loads.{empty, unready, whole_refused, Ends, TakesAll, whole, ready, Loads, Restores}
@@ -46,6 +47,10 @@ whole_restores b bytes e h = λ other so oo is ob eb.
     let z : ◌≡◌ {A = ℕ} 0 1 = cc in
     absurd (omega arith)
 
+where_ok : {X : Type 0} (l : Loaded) → (result_err l ≡ None → X) → OnOk l X
+where_ok (Ok n) f = f refl
+where_ok (Err x) f = tt
+
 -- ---- taken record by record
 module _ (b : BookView) (bytes : List ℕ) (l : Loaded) (b' : BookView) (fit : unready b (length bytes) ≡ None) (t : TakesAll b bytes l b') where
   r : Ready b (length bytes)
@@ -56,7 +61,7 @@ module _ (b : BookView) (bytes : List ℕ) (l : Loaded) (b' : BookView) (fit : u
 
   record Tried (tried : List Turn) : Type 0 where
     most : length tried ≤ 769
-    counted : changes tried ≡ l.taken
+    counted : changes tried ≡ taken l
     adds : Adds b (frames tried) (length tried) (changes tried) b'
 
   tried : (x : Option Refused) → Ends bytes t.turns x t.last t.met t.tried b' → Tried t.tried
@@ -77,7 +82,7 @@ module _ (b : BookView) (bytes : List ℕ) (l : Loaded) (b' : BookView) (fit : u
 
   pub taken_load : Loads b bytes l b'
   taken_load =
-      let all = tried l.refused t.ends in
+      let all = tried (result_err l) t.ends in
       record { tried = t.tried; loading = ready fit t; most = all.most; counted = all.counted; law = adds_frames all.adds }
 
   pub taken_restores : Restores b bytes l b'
@@ -85,8 +90,8 @@ module _ (b : BookView) (bytes : List ℕ) (l : Loaded) (b' : BookView) (fit : u
       let T : List ℕ → Type 0 = λ bs. TakesAll b bs l b' in
       restored other so oo b ob eb l b' (subst T is t)
 
-  pub saved_again : l.refused ≡ None → saved b' ≡ bytes
-  saved_again e = go l.refused t.ends e
+  pub saved_again : OnOk l (saved b' ≡ bytes)
+  saved_again = where_ok l (go (result_err l) t.ends)
     where
       go : (x : Option Refused) → Ends bytes t.turns x t.last t.met t.tried b' → x ≡ None → saved b' ≡ bytes
       go None e z =

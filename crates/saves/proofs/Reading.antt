@@ -1,5 +1,5 @@
 -- The records of a load, read one after another.
-use Rattle.std.proofs.Common.{◌≡◌, ℕ, ◌+◌, ◌-◌, ◌*◌, ◌/◌, ◌<◌, ◌≤◌, List, [], ◌∷◌, ◌++◌, length, take, drop, Some, None, Option, sym, refl, ap, ◌∙◌, subst, arith, length-append, length-drop, drop-drop}
+use Rattle.std.proofs.Common.{◌≡◌, ℕ, ◌+◌, ◌-◌, ◌*◌, ◌/◌, ◌<◌, ◌≤◌, List, [], ◌∷◌, ◌++◌, length, take, drop, Some, None, Ok, Err, Option, sym, refl, ap, ◌∙◌, subst, arith, length-append, length-drop, drop-drop}
 use lib.Seq.{take-append_seam, drop-append_seam}
 use Rattle.ordered.specs.declared.calls.Answer.{Answer}
 use Rattle.ordered.specs.declared.refusal.Refusal.{Refusal}
@@ -61,12 +61,12 @@ taking_more b u b' bytes n o part x c r e t took is =
     }
 
 pub taken_whole : (b u : BookView) (bytes : List ℕ) (n : ℕ) (o : Option Record) → Taking b bytes n o u → Standing u → n ≡ length bytes / 32 →
-    TakesAll b bytes (record { taken = length bytes / 32; refused = None }) u
+    TakesAll b bytes (Ok (length bytes / 32)) u
 taken_whole b u bytes n o t s e =
     record { turns = t.turns; last = o; met = u; takes = t.takes; stands = s; taken = sym (t.count ∙ e); tried = t.turns; ends = (t.count ∙ e, refl, refl) }
 
 pub taken_part : (b u b' : BookView) (bytes part : List ℕ) (n : ℕ) (o : Option Record) (e : Refusal) (r : Answer) → Taking b bytes n o u → Standing u → n < length bytes / 32 → part ≡ piece bytes n →
-    Turned u o part e r b' → TakesAll b bytes (record { taken = n; refused = Some (record { refusal = e; number = n }) }) b'
+    Turned u o part e r b' → TakesAll b bytes (Err (record { refusal = e; number = n })) b'
 taken_part b u b' bytes part n o e r t s few is no_more =
     let T : List ℕ → Type 0 = λ p. Turned u o p e r b' in
     record {

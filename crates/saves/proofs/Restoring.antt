@@ -20,7 +20,8 @@ use Rattle.book.specs.declared.part.Part.{Part}
 use Rattle.book.specs.declared.part.Part.TheVariants.{Names, Leases, Events}
 use Rattle.book.specs.Books.{BookView, look, shut, Standing, book_plan}
 use Rattle.book.specs.Runs.{Turn, piece}
-use Rattle.saves.specs.declared.load.Loaded.{Loaded}
+use Rattle.std.specs.Result.{result_err}
+use Rattle.saves.specs.Loads.{Loaded, taken}
 use Rattle.saves.specs.declared.load.Refused.{Refused}
 use Rattle.saves.specs.Saves.{form, forms, records, saved}
 use Rattle.saves.specs.Loads.{loadable, in_turn, empty, Turned, unread, out_of_turn, answered, Takes, start, more, Ends, TakesAll, SameEntries, Restored}
@@ -194,7 +195,7 @@ module _ (other : BookView) (so : Standing other) (oo : shut other ≡ false) wh
     pub restored : (l : Loaded) (b' : BookView) → TakesAll b (saved other) l b' → Restored other l b'
     unfolding all
     restored l b' t =
-        let done = go l.refused t.ends in
+        let done = go (result_err l) t.ends in
         record { accepted = done.0; taken = t.taken ∙ done.1; same = done.2 }
       where
         size : length (saved other) / 32 ≡ length (records other)

@@ -6,7 +6,7 @@ use Rattle.ordered.specs.declared.calls.Answer.{Answer}
 use Rattle.book.specs.Books.{BookView}
 use Rattle.book.specs.Serving.{Served}
 use Rattle.book.proofs.Summing.{Adds, adds_none, adds_then, adds_frames, frames_adds, served_adds}
-use Rattle.saves.specs.declared.load.Loaded.{Loaded as LoadAnswer}
+use Rattle.saves.specs.Loads.{Loaded as LoadAnswer}
 use Rattle.saves.specs.declared.season.Deed.{Deed}
 use Rattle.saves.specs.declared.season.Deed.TheVariants.{Command, Load}
 use Rattle.saves.specs.declared.season.Outcome.{Outcome}

@@ -7,6 +7,7 @@
 --   Tried             a record that was tried
 --   Takes             records taken one after another from the first, each by its turn, and the last of them
 --   Ends              why no more were taken: none was left, or the next one was refused
+--   Loaded, taken     what a load answers; how many records it took
 --   TakesAll          what a load onto a ready book takes
 --   empty, unready    whether a book has no entry; why a load is refused as a whole
 --   Loads             what a load answers and does, and what its frames come to
@@ -21,10 +22,10 @@ use Rattle.wire.specs.declared.record.Record.{Record}
 use Rattle.wire.specs.declared.command.Command.{Command}
 use Rattle.wire.specs.Commands.{fields}
 use Rattle.wire.specs.Reading.{Spells, Unread}
-use Rattle.leases.specs.Plans.{refusal}
+use Rattle.ordered.specs.Answers.{no_of}
 use Rattle.book.specs.Books.{BookView, Standing, Did, shut}
 use Rattle.book.specs.Runs.{Turn, frames, changes, Frames, piece}
-use Rattle.saves.specs.declared.load.Loaded.{Loaded}
+use Rattle.std.specs.Result.{result_err}
 use Rattle.saves.specs.declared.load.Refused.{Refused}
 use Rattle.saves.specs.Saves.{records, saved}
 
@@ -48,8 +49,8 @@ pub record Took (b : BookView) (o : Option Record) (p : List ℕ) (c : Command) 
   pub accepted : r.outcome ≡ Ok entry
 
 pub data Turned (b : BookView) (o : Option Record) (p : List ℕ) (e : Refusal) : Answer → BookView → Type 0 where
-  unread : Unread p e → Turned b o p e (refusal e 0 0) b
-  out_of_turn : (c : Command) → Spells p c → in_turn o (fields c) ≡ false → e ≡ Sequence → Turned b o p e (refusal e 0 0) b
+  unread : Unread p e → Turned b o p e (no_of e 0 0) b
+  out_of_turn : (c : Command) → Spells p c → in_turn o (fields c) ≡ false → e ≡ Sequence → Turned b o p e (no_of e 0 0) b
   answered : (c : Command) {r : Answer} {b' : BookView} → Spells p c → in_turn o (fields c) ≡ true → Did b c r b' → r.outcome ≡ Err e → Turned b o p e r b'
 
 abbrev pub Tried : BookView → Option Record → List ℕ → Result Record Refusal → BookView → Type 0
@@ -57,6 +58,13 @@ Tried b o p (Ok x) b' = (c : Command) × (r : Answer) × Took b o p c r b' × (x
 Tried b o p (Err e) b' = (r : Answer) × Turned b o p e r b'
 
 -- ---- all records
+abbrev pub Loaded : Type 0
+Loaded = Result ℕ Refused
+
+abbrev pub taken : Loaded → ℕ
+taken (Ok n) = n
+taken (Err x) = x.number
+
 pub data Takes (b : BookView) (bytes : List ℕ) : List Turn → Option Record → BookView → Type 0 where
   start : Takes b bytes [] None b
   more : {ts : List Turn} {o : Option Record} {u b' : BookView} {c : Command} {r : Answer} → Takes b bytes ts o u → Took u o (piece bytes (length ts)) c r b' →
@@ -74,9 +82,9 @@ pub record TakesAll (b : BookView) (bytes : List ℕ) (l : Loaded) (b' : BookVie
   pub met : BookView
   pub takes : Takes b bytes turns last met
   pub stands : Standing met
-  pub taken : l.taken ≡ length turns
+  pub taken : taken l ≡ length turns
   pub tried : List Turn
-  pub ends : Ends bytes turns l.refused last met tried b'
+  pub ends : Ends bytes turns (result_err l) last met tried b'
 
 -- ---- a load
 abbrev pub empty : BookView → Bool
@@ -86,7 +94,7 @@ abbrev pub unready : BookView → ℕ → Option Refusal
 unready b n = cond (shut b) (Some Shut) (cond (empty b) (cond (n % 32 == 0) None (Some Length)) (Some StandingEntry))
 
 abbrev pub whole_refused : Refusal → Loaded
-whole_refused e = record { taken = 0; refused = Some (record { refusal = e; number = 0 }) }
+whole_refused e = Err (record { refusal = e; number = 0 })
 
 pub data Loading (b : BookView) (bytes : List ℕ) (l : Loaded) (b' : BookView) : List Turn → Type 0 where
   whole : (e : Refusal) → unready b (length bytes) ≡ Some e → l ≡ whole_refused e → b' ≡ b → Loading b bytes l b' []
@@ -96,7 +104,7 @@ pub record Loads (b : BookView) (bytes : List ℕ) (l : Loaded) (b' : BookView) 
   pub tried : List Turn
   pub loading : Loading b bytes l b' tried
   pub most : length tried ≤ 769
-  pub counted : changes tried ≡ l.taken
+  pub counted : changes tried ≡ taken l
   pub law : Frames b (frames tried) (length tried) (changes tried) b'
 
 -- ---- what a load gives back
@@ -106,8 +114,8 @@ pub record SameEntries (b b' : BookView) : Type 0 where
   pub events : b'.events.entries ≡ b.events.entries
 
 pub record Restored (other : BookView) (l : Loaded) (b' : BookView) : Type 0 where
-  pub accepted : l.refused ≡ None
-  pub taken : l.taken ≡ length (records other)
+  pub accepted : result_err l ≡ None
+  pub taken : taken l ≡ length (records other)
   pub same : SameEntries other b'
 
 abbrev pub Restores : BookView → List ℕ → Loaded → BookView → Type 0

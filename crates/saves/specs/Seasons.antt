@@ -15,12 +15,11 @@ use Rattle.leases.specs.Commands.{change}
 use Rattle.book.specs.Books.{BookView}
 use Rattle.book.specs.Serving.{Served}
 use Rattle.book.specs.Runs.{frames, changes, New, FromNew, Frames}
-use Rattle.saves.specs.declared.load.Loaded.{Loaded as LoadAnswer}
 use Rattle.saves.specs.declared.season.Deed.{Deed}
 use Rattle.saves.specs.declared.season.Deed.TheVariants.{Command, Load}
 use Rattle.saves.specs.declared.season.Outcome.{Outcome}
 use Rattle.saves.specs.declared.season.Outcome.TheVariants.{Answered, Loaded}
-use Rattle.saves.specs.Loads.{Loads}
+use Rattle.saves.specs.Loads.{Loads, Loaded as LoadAnswer}
 
 abbrev pub long : Deed → ℕ
 long (Command n) = n

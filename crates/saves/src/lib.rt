@@ -8,5 +8,5 @@ pub mod load;
 pub mod save;
 pub mod season;
 
-pub use load::{Loaded, Refused};
+pub use load::Refused;
 pub use season::{Deed, Outcome};

@@ -44,7 +44,6 @@ fn write(part: Part, entries: &[Entry], out: &mut [u8], at: usize)
 
 // Writes the records of one part of a book, and tells the place after them.
 fn write_part<B: Ledger>(book: &B, part: Part, out: &mut [u8], at: usize) -> usize
-    requires sound { B.Ledger.sound book.now }
     requires unshut { is_shut (B.Ledger.view book.now) ≡ false }
     requires room { at + 32 * length (look part (B.Ledger.view book.now)).entries ≤ length out.old }
     ensures place { result ≡ at + 32 * length (look part (B.Ledger.view book.now)).entries }
@@ -59,7 +58,6 @@ fn write_part<B: Ledger>(book: &B, part: Part, out: &mut [u8], at: usize) -> usi
 
 // Writes the book's records and answers how many bytes they take.
 pub fn save<B: Ledger>(book: &B, out: &mut [u8]) -> Result<usize, Refusal>
-    requires { B.Ledger.sound book.now }
     ensures { Saved (B.Ledger.view book.now) out.old result out.new }
 {
     if book.is_shut() {

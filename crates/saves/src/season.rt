@@ -2,22 +2,22 @@
 ghost use Rattle.std.specs.Prelude.{◌≡◌, ◌≤◌, length};
 ghost use Rattle.saves.specs.Seasons.{long, Acts, Seasoned};
 
-use crate::load::{Loaded, load};
+use crate::load::{Refused, load};
 use book::Ledger;
 use book::runs::serve;
 use ordered::Answer;
 
 // What the next so many bytes of a tape are.
-#[derive(Clone, Copy)]
+#[derive(Clone, Copy, PartialEq, Eq, Debug)]
 pub enum Deed {
     Command(usize),
     Load(usize),
 }
 
-#[derive(Clone, Copy)]
+#[derive(Clone, Copy, PartialEq, Eq, Debug)]
 pub enum Outcome {
     Answered(Answer),
-    Loaded(Loaded),
+    Loaded(Result<usize, Refused>),
 }
 
 impl Deed {
@@ -33,9 +33,7 @@ impl Deed {
 
 // One command, or one load.
 pub fn act<B: Ledger>(book: &mut B, deed: Deed, bytes: &[u8]) -> Outcome
-    requires { B.Ledger.sound book.old }
-    ensures sound { B.Ledger.sound book.new }
-    ensures acts { Acts (B.Ledger.view book.old) bytes.now deed result (B.Ledger.view book.new) }
+    ensures { Acts (B.Ledger.view book.old) bytes.now deed result (B.Ledger.view book.new) }
 {
     match deed {
         Deed::Command(_) => Outcome::Answered(serve(book, bytes)),
@@ -45,10 +43,8 @@ pub fn act<B: Ledger>(book: &mut B, deed: Deed, bytes: &[u8]) -> Outcome
 
 // Does one after another what a tape asks for, each with as many bytes as are left of those it asks for.
 pub fn season<B: Ledger>(book: &mut B, tape: &[u8], deeds: &[Deed], outcomes: &mut [Outcome])
-    requires sound { B.Ledger.sound book.old }
-    requires room { length deeds.now ≤ length outcomes.old }
-    ensures sound { B.Ledger.sound book.new }
-    ensures season { Seasoned (B.Ledger.view book.old) tape.now deeds.now outcomes.old outcomes.new (B.Ledger.view book.new) }
+    requires { length deeds.now ≤ length outcomes.old }
+    ensures { Seasoned (B.Ledger.view book.old) tape.now deeds.now outcomes.old outcomes.new (B.Ledger.view book.new) }
 {
     let mut at = 0;
     for (i, deed) in deeds.iter().enumerate() {

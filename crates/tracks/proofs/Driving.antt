@@ -23,7 +23,7 @@ use Rattle.rules.proofs.Calls.{agrees}
 use Rattle.rules.proofs.Running.{new_sound}
 use Rattle.runs.specs.States.{State, Answered}
 use Rattle.runs.specs.Runs.{Run, ended, then}
-use Rattle.inside.specs.Answers.{no_of}
+use Rattle.ordered.specs.Answers.{no_of}
 use Rattle.inside.specs.Runs.{made, begun, RanNew}
 use Rattle.tracks.specs.Track.{track, Seen, seen, expected, Driven}
 

@@ -13,7 +13,7 @@ use Rattle.ordered.specs.declared.calls.Rebuilding.{Rebuilding}
 use Rattle.ordered.specs.declared.calls.Rebuilding.TheVariants.{Unchanged, Split, Merge}
 use Rattle.ordered.specs.declared.refusal.Refusal.{Refusal}
 use Rattle.ordered.specs.declared.refusal.Refusal.TheVariants.{Shut, Absent, Nothing}
-use Rattle.inside.specs.Answers.{no_of}
+use Rattle.ordered.specs.Answers.{no_of}
 
 -- ---- the script: zone k is added with the note 99 + k
 abbrev pub adds : ℕ → ℕ → List Call

@@ -5,14 +5,14 @@
 ghost use Rattle.std.specs.Prelude.{◌≡◌, length, is_some};
 ghost use Rattle.ordered.specs.Fitness.{fitness};
 ghost use Rattle.ordered.specs.declared.refusal.Refusal.TheVariants.{Shut};
-ghost use Rattle.inside.specs.Answers.{no_of};
+ghost use Rattle.ordered.specs.Answers.{no_of};
 ghost use Rattle.tracks.specs.Track.{track, Driven};
 
 use cuckoo::table::Cuckoo;
 use dictionary::Dictionary;
 use entry::Entry;
 use key::kinds::Zone;
-use ordered::{Answer, Call, Rebuilding, Refusal};
+use ordered::{Answer, Call, Refusal};
 use robin_hood::table::RobinHood;
 use std::{fmt, io};
 use yfast::run::run_new;
@@ -60,13 +60,7 @@ fn script() -> [Call; 32]
 fn blank() -> Answer
     ensures { result ≡ no_of Shut 0 0 }
 {
-    Answer {
-        outcome: Err(Refusal::Shut),
-        number: 0,
-        frames: 0,
-        visits: 0,
-        rebuilding: Rebuilding::Unchanged,
-    }
+    Answer::refused(Refusal::Shut, 0, 0)
 }
 
 // What an index on the dictionary answers to the script.

@@ -3,13 +3,11 @@
 --   fewest_le                  more height needs more entries
 --   fewest_holds               a balanced tree has at least the fewest of its height
 --   table_is                   the table holds them: its recurrence is computed once
---   count_passes, count_fails  the count of allowed heights, one height on
 --   highest_allows, highest_largest  what H means
 --   highest_tree               a balanced tree is no higher than H of its entries
-use Rattle.std.proofs.Common.{◌≡◌, ℕ, zero, suc, ◌+◌, ◌-◌, ◌<◌, ◌≤◌, max, true, cond, eqb, leb, List, [], ◌∷◌, length, get_or, take, filter, refl, ap, subst, inl, inr, ⊎_elim, add-zero, add-suc, arith, length-append}
+use Rattle.std.proofs.Common.{◌≡◌, ℕ, zero, suc, ◌+◌, ◌-◌, ◌<◌, ◌≤◌, max, true, eqb, leb, List, [], ◌∷◌, length, get_or, filter, refl, ap, subst, inl, inr, ⊎_elim, add-zero, add-suc, arith, length-append}
 use Rattle.std.proofs.ByRecursion.{All-from_get_or}
-use Rattle.std.proofs.lemmas.List.Filters.{length-filter_more}
-use Rattle.std.proofs.lemmas.Bool.{cases_order, cases_lt, eqb-true, and_parts, le-leb, lt-leb, cond-true, cond-false}
+use Rattle.std.proofs.lemmas.Bool.{cases_order, cases_lt, eqb-true, and_parts, le-leb, lt-leb}
 use Rattle.entry.proofs.Filters.{kept_none}
 use Rattle.trees.specs.Trees.{Tree, leaf, node, tall, entries, Balanced}
 use Rattle.trees.specs.Heights.{fewest, table, recurs, highest}
@@ -100,17 +98,6 @@ table_cut s = rows_cut s 0 table (λ k lt.
     let e : suc k - 1 ≡ k = omega arith in
     let f : suc (0 + k) ≡ suc k = omega arith in
     rw f (rw e at (table_is (suc k) (omega arith) (omega arith)))) (omega arith)
-
--- how many of the first i heights s entries allow, one height on
-module _ (s i : ℕ) (lt : i < 10) where
-  more : length (filter (λ n. leb n s) (take (i + 1) table)) ≡ length (filter (λ n. leb n s) (take i table)) + cond (leb (get_or table i 0) s) 1 0
-  more = length-filter_more (λ n. leb n s) table i 0 lt
-
-  pub count_passes : get_or table i 0 ≤ s → length (filter (λ n. leb n s) (take i table)) + 1 ≡ length (filter (λ n. leb n s) (take (i + 1) table))
-  count_passes le = omega (arith, more, cond-true {A = ℕ} (leb (get_or table i 0) s) 1 0 (le-leb (get_or table i 0) s le))
-
-  pub count_fails : s < get_or table i 0 → length (filter (λ n. leb n s) (take i table)) ≡ length (filter (λ n. leb n s) (take (i + 1) table))
-  count_fails gt = omega (arith, more, cond-false {A = ℕ} (leb (get_or table i 0) s) 1 0 (lt-leb (get_or table i 0) s gt))
 
 pub highest_allows : (s : ℕ) → fewest (highest s) ≤ s
 highest_allows s = let e : 0 + highest s ≡ highest s = omega arith in rw e at (table_cut s).low

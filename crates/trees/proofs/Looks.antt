@@ -1,19 +1,18 @@
 -- What a look down a tree answers, from the answer below the root.
 --
---   saw_none, saw_step  at the end of a path; one place higher
---   foremost-…, hindmost-…  what an answer tells of the list
+--   saw_here, saw_more, saw_or  at the key's own place; one place higher; there, if none was found behind
+--   saw_few             its visits are few
 --   front_or, back_or   the first and the last entry of joined lists
 --   at-…, from-…, upto-…  the filters at a key, below the root's key, at it, above it
 --   path-…              the search path likewise
 --   span-…              the span likewise
 --   walk-…, count_open  the indices likewise
 --   span_few            a span has no more entries than the pool
---   visits_highest      no path is longer than H of the entries
-use Rattle.std.proofs.Common.{◌≡◌, ℕ, ◌+◌, ◌<◌, ◌≤◌, max, true, leb, List, [], ◌∷◌, ◌++◌, length, Some, None, Option, sym, refl, ap, ◌∙◌, arith, length-append}
+use Rattle.std.proofs.Common.{◌≡◌, ℕ, ◌+◌, ◌<◌, ◌≤◌, max, leb, List, [], ◌∷◌, ◌++◌, length, Some, Option, sym, refl, ap, ◌∙◌, arith, length-append}
 use Rattle.std.specs.Option.{option_or}
 use Rattle.std.proofs.lemmas.List.{append-nil}
 use Rattle.entry.specs.declared.Entry.{Entry}
-use Rattle.entry.specs.Lists.{at, from, upto, between, filled, first, final, Over, Under}
+use Rattle.entry.specs.Lists.{at, from, upto, between, Over, Under}
 use Rattle.entry.proofs.Filters.{at_left, at_right, from_left, from_right, upto_left, upto_right, key_at, key_from, key_upto, final_append, between_append, under_between, over_between, between_in, kept_short, at_past, from_past, upto_past}
 use Rattle.entry.proofs.Orders.{over_less, under_more}
 use Rattle.trees.specs.declared.Found.{Found}
@@ -22,38 +21,21 @@ use Rattle.trees.specs.Counts.{single, times}
 use Rattle.trees.specs.Trees.{Tree, tall, entries, places, seen, low_way, high_way}
 use Rattle.trees.specs.Pools.{node_at, entry_at, left_at, right_at, tree_at, entries_at, places_at, Standing}
 use Rattle.trees.specs.Answers.{foremost, hindmost, Saw}
-use Rattle.trees.specs.Heights.{highest}
 use Rattle.trees.proofs.Counts.{times_append}
-use Rattle.trees.proofs.Heights.{highest_tree}
-use Rattle.trees.proofs.Paths.{seen_here, seen_left, seen_right, seen_low}
-use Rattle.trees.proofs.Pools.{Opened, size}
+use Rattle.trees.proofs.Paths.{seen_here, seen_left, seen_right}
+use Rattle.trees.proofs.Pools.{Opened, low, size}
 
-pub saw_none : (e : Option Entry) (n : ℕ) (t : Tree) → None ≡ e → 0 ≡ n → Saw (record { entry = None; visits = 0 }) e n t
-saw_none e n t is zero_is = record { entry = is; visits = zero_is; few = omega arith }
+pub saw_here : {y : Found} {x : Entry} {e : Option Entry} {n : ℕ} {t : Tree} → y ≡ record { entry = Some x; visits = 1 } → e ≡ Some x → n ≡ 1 → 1 ≤ tall t → Saw y e n t
+saw_here made is one_is pos = rw made (record { entry = sym is; visits = sym one_is; few = pos })
 
-pub saw_here : (x : Entry) (e : Option Entry) (n : ℕ) (t : Tree) → Some x ≡ e → n ≡ 1 → 1 ≤ tall t → Saw (record { entry = Some x; visits = 1 }) e n t
-saw_here x e n t is one_is pos = record { entry = is; visits = sym one_is; few = pos }
+pub saw_more : {y r : Found} {e e' : Option Entry} {n n' : ℕ} {t t' : Tree} → y ≡ record { entry = r.entry; visits = r.visits + 1 } → Saw r e n t → e' ≡ e → n' ≡ n + 1 → 1 + tall t ≤ tall t' → Saw y e' n' t'
+saw_more made s is more up = rw made (record { entry = s.entry ∙ sym is; visits = omega (arith, s.visits); few = omega (arith, s.few) })
 
-pub saw_step : (r : Found) (x e e' : Option Entry) (n n' : ℕ) (t t' : Tree) → Saw r e n t → x ≡ e' → n' ≡ n + 1 → 1 + tall t ≤ tall t'
-    → Saw (record { entry = x; visits = r.visits + 1 }) e' n' t'
-saw_step r x e e' n n' t t' s is more up = record { entry = is; visits = omega (arith, s.visits); few = omega (arith, s.few) }
+pub saw_or : {y r : Found} (x : Entry) {e e' : Option Entry} {n n' : ℕ} {t t' : Tree} → y ≡ record { entry = option_or r.entry (Some x); visits = r.visits + 1 } → Saw r e n t → e' ≡ option_or e (Some x) → n' ≡ n + 1 → 1 + tall t ≤ tall t' → Saw y e' n' t'
+saw_or x made s is more up = rw made (record { entry = ap (λ z. option_or z (Some x)) s.entry ∙ sym is; visits = omega (arith, s.visits); few = omega (arith, s.few) })
 
--- what an answer tells of the list
-pub foremost_some : (xs : List Entry) (e : Entry) → foremost xs ≡ Some e → (filled xs ≡ true) × (first xs ≡ e)
-foremost_some [] e h = absurd (let z : ◌≡◌ {A = ℕ} 0 1 = cc in omega arith)
-foremost_some (x ∷ xs) e h = (refl, cc)
-
-pub foremost_none : (xs : List Entry) → foremost xs ≡ None → xs ≡ []
-foremost_none [] h = refl
-foremost_none (x ∷ xs) h = absurd (let z : ◌≡◌ {A = ℕ} 0 1 = cc in omega arith)
-
-pub hindmost_some : (xs : List Entry) (e : Entry) → hindmost xs ≡ Some e → (filled xs ≡ true) × (final xs ≡ e)
-hindmost_some [] e h = absurd (let z : ◌≡◌ {A = ℕ} 0 1 = cc in omega arith)
-hindmost_some (x ∷ xs) e h = (refl, cc)
-
-pub hindmost_none : (xs : List Entry) → hindmost xs ≡ None → xs ≡ []
-hindmost_none [] h = refl
-hindmost_none (x ∷ xs) h = absurd (let z : ◌≡◌ {A = ℕ} 0 1 = cc in omega arith)
+pub saw_few : {ns : List Node} {root : ℕ} {r : Found} {e : Option Entry} {n : ℕ} → Standing ns root → Saw r e n (tree_at ns root) → r.visits < 512
+saw_few s r = omega (arith, low _ _ _ s, r.few)
 
 pub front_or : (xs : List Entry) (y : Entry) (ys : List Entry) → option_or (foremost xs) (Some y) ≡ foremost (xs ++ y ∷ ys)
 front_or [] y ys = refl
@@ -168,6 +150,3 @@ module _ (ns : List Node) (root : ℕ) (o : Opened ns root) where
 pub span_few : (a b : ℕ) (ns : List Node) (root : ℕ) → Standing ns root → length (between a b (entries_at ns root)) ≤ 512
 span_few a b ns root s =
     omega (arith, kept_short (λ (e : Entry). leb a e.key) (upto b (entries_at ns root)), kept_short (λ (e : Entry). leb e.key b) (entries_at ns root), size ns root s)
-
-pub visits_highest : (s key : ℕ) (ns : List Node) (root : ℕ) → Standing ns root → length (entries_at ns root) ≤ s → s < 232 → seen key (tree_at ns root) ≤ highest s
-visits_highest s key ns root st le small = omega (arith, seen_low key (tree_at ns root), highest_tree s small (tree_at ns root) st.balanced le)

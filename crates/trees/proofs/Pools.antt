@@ -7,6 +7,7 @@
 --   high_is             the stored height is the tree's
 --   Opened, opened      a tree under an index, taken apart at its root
 --   falls_left, falls_right  the stored height falls on the way down
+--   steps_left, steps_right  and the subtree stands
 --   lies_kept, stands_kept, same_tree, standing_kept  a tree outside of what was altered still stands
 --   kept_none, kept_then  no change; two changes, one after the other
 --   entries_are         the entries are those of the nodes
@@ -152,6 +153,12 @@ module _ (ns : List Node) (root m : ℕ) (s : Standing ns root) (o : Opened ns r
 
   pub falls_right : high ns (node_at ns root).right < m
   falls_right = omega (arith, e, high_is ns root s, high_is ns (node_at ns root).right o.right, ap tall o.here)
+
+pub steps_left : (ns : List Node) (root m : ℕ) → Standing ns root → (root ≡ 65535 → ⊥) → high ns root ≡ m → (high ns (node_at ns root).left < m) × Standing ns (node_at ns root).left
+steps_left ns root m s ne e = let o = opened ns root s ne in (falls_left ns root m s o e, o.left)
+
+pub steps_right : (ns : List Node) (root m : ℕ) → Standing ns root → (root ≡ 65535 → ⊥) → high ns root ≡ m → (high ns (node_at ns root).right < m) × Standing ns (node_at ns root).right
+steps_right ns root m s ne e = let o = opened ns root s ne in (falls_right ns root m s o e, o.right)
 
 pub lies_kept : (ns ms : List Node) (t : Tree) → length ms ≡ length ns → ((j : ℕ) → 1 ≤ times j (places t) → node_at ms j ≡ node_at ns j) → Lies ns t → Lies ms t
 lies_kept ns ms leaf long same h = tt

@@ -8,34 +8,19 @@ ghost use Rattle.trees.specs.Pools.{Standing, tree_at, entries_at};
 ghost use Rattle.trees.specs.Answers.{Saw, foremost};
 
 use crate::{Found, NONE, Node};
+use std::cmp::Ordering;
 
 pub fn next(nodes: &[Node], root: u16, key: u64) -> Found
     requires { Standing nodes.now root }
     ensures { Saw result (foremost (from key (entries_at nodes.now root))) (seen key (tree_at nodes.now root)) (tree_at nodes.now root) }
 {
     if root == NONE {
-        return Found {
-            entry: None,
-            visits: 0,
-        };
+        return Found::default();
     }
     let here = nodes[root as usize];
-    if key == here.key {
-        return Found {
-            entry: Some(here.entry()),
-            visits: 1,
-        };
-    }
-    if here.key < key {
-        let right = next(nodes, here.right, key);
-        return Found {
-            entry: right.entry,
-            visits: right.visits + 1,
-        };
-    }
-    let left = next(nodes, here.left, key);
-    Found {
-        entry: left.entry.or(Some(here.entry())),
-        visits: left.visits + 1,
+    match key.cmp(&here.key) {
+        Ordering::Less => next(nodes, here.left, key).or_here(&here),
+        Ordering::Equal => here.found(),
+        Ordering::Greater => next(nodes, here.right, key).one_more(),
     }
 }

@@ -1,4 +1,6 @@
 // The first and the last entry of a tree, with the entries on the way to them.
+//
+// One function over a side would choose the child by it, and be longer than both.
 
 ghost use Rattle.trees.specs.Trees.{low_way, high_way};
 ghost use Rattle.trees.specs.Pools.{Standing, tree_at, entries_at};
@@ -11,17 +13,10 @@ pub fn first_entry(nodes: &[Node], root: u16) -> Found
     ensures { Saw result (foremost (entries_at nodes.now root)) (low_way (tree_at nodes.now root)) (tree_at nodes.now root) }
 {
     if root == NONE {
-        return Found {
-            entry: None,
-            visits: 0,
-        };
+        return Found::default();
     }
     let here = nodes[root as usize];
-    let left = first_entry(nodes, here.left);
-    Found {
-        entry: left.entry.or(Some(here.entry())),
-        visits: left.visits + 1,
-    }
+    first_entry(nodes, here.left).or_here(&here)
 }
 
 pub fn last_entry(nodes: &[Node], root: u16) -> Found
@@ -29,15 +24,8 @@ pub fn last_entry(nodes: &[Node], root: u16) -> Found
     ensures { Saw result (hindmost (entries_at nodes.now root)) (high_way (tree_at nodes.now root)) (tree_at nodes.now root) }
 {
     if root == NONE {
-        return Found {
-            entry: None,
-            visits: 0,
-        };
+        return Found::default();
     }
     let here = nodes[root as usize];
-    let right = last_entry(nodes, here.right);
-    Found {
-        entry: right.entry.or(Some(here.entry())),
-        visits: right.visits + 1,
-    }
+    last_entry(nodes, here.right).or_here(&here)
 }

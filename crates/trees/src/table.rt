@@ -23,11 +23,5 @@ pub fn tallest(size: u16) -> u8
     ensures trees { (t : Tree) → Balanced t → length (entries t) ≤ size → tall t ≤ result }
     ensures paths { (t : Tree) (key : ℕ) → Balanced t → length (entries t) ≤ size → seen key t ≤ result }
 {
-    let mut height: u8 = 0;
-    for least in &FEWEST {
-        if *least <= size {
-            height += 1;
-        }
-    }
-    height
+    FEWEST.iter().filter(|least| **least <= size).count() as u8
 }

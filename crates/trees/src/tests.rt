@@ -28,24 +28,25 @@ const SMALL: [Node; 3] = [
     },
 ];
 
-fn note_of(found: Found) -> u64 {
-    match found.entry {
-        Some(entry) => entry.note,
-        None => 0,
-    }
-}
+const TEN: Entry = Entry { key: 10, note: 1 };
+
+const TWENTY: Entry = Entry { key: 20, note: 2 };
+
+const THIRTY: Entry = Entry { key: 30, note: 3 };
 
 #[test]
 fn looks(rt: HostRuntime) -> Result<(), Fail> {
     let nodes = SMALL;
     let held = find(&nodes, 0, 30);
-    assert!(rt; note_of(held) == 3 && held.visits == 2);
+    assert_eq!(rt; held.entry, Some(THIRTY));
+    assert_eq!(rt; held.visits, 2);
     let missing = find(&nodes, 0, 25);
-    assert!(rt; note_of(missing) == 0 && missing.visits == 2);
-    assert!(rt; note_of(next(&nodes, 0, 11)) == 2);
-    assert!(rt; note_of(last(&nodes, 0, 29)) == 2);
-    assert!(rt; note_of(first_entry(&nodes, 0)) == 1);
-    assert!(rt; note_of(last_entry(&nodes, 0)) == 3);
+    assert_eq!(rt; missing.entry, None);
+    assert_eq!(rt; missing.visits, 2);
+    assert_eq!(rt; next(&nodes, 0, 11).entry, Some(TWENTY));
+    assert_eq!(rt; last(&nodes, 0, 29).entry, Some(TWENTY));
+    assert_eq!(rt; first_entry(&nodes, 0).entry, Some(TEN));
+    assert_eq!(rt; last_entry(&nodes, 0).entry, Some(THIRTY));
     Ok(())
 }
 
@@ -53,20 +54,27 @@ fn looks(rt: HostRuntime) -> Result<(), Fail> {
 fn spans_and_walks(rt: HostRuntime) -> Result<(), Fail> {
     let nodes = SMALL;
     assert_eq!(rt; count(&nodes, 0, 10, 29), 2);
-    let mut out = [Entry { key: 7, note: 7 }; 4];
+    let other = Entry { key: 7, note: 7 };
+    let mut out = [other; 4];
     assert_eq!(rt; span(&nodes, 0, 10, 20, &mut out, 1), 3);
-    assert!(rt; out[0].key == 7 && out[1].key == 10 && out[2].key == 20 && out[3].key == 7);
+    assert_eq!(rt; out, [other, TEN, TWENTY, other]);
     let mut row = [9u16; 3];
     assert_eq!(rt; walk(&nodes, 0, &mut row, 0), 3);
-    assert!(rt; row[0] == 1 && row[1] == 0 && row[2] == 2);
+    assert_eq!(rt; row, [1, 0, 2]);
     Ok(())
 }
 
 #[test]
 fn minimal_counts(rt: HostRuntime) {
-    for i in 2..10usize {
-        assert!(rt; FEWEST[i] as u32 == 1 + FEWEST[i - 1] as u32 + FEWEST[i - 2] as u32);
+    for three in FEWEST.windows(3) {
+        assert_eq!(rt;
+            u32::from(three[2]),
+            1 + u32::from(three[1]) + u32::from(three[0])
+        );
     }
     assert_eq!(rt; fewest_at(10), 143);
-    assert!(rt; tallest(0) == 0 && tallest(142) == 9 && tallest(143) == 10 && tallest(231) == 10);
+    assert_eq!(rt; tallest(0), 0);
+    assert_eq!(rt; tallest(142), 9);
+    assert_eq!(rt; tallest(143), 10);
+    assert_eq!(rt; tallest(231), 10);
 }

@@ -1,9 +1,8 @@
 // Looking up a key.
 ghost use Rattle.std.specs.Prelude.{◌≡◌, []};
 ghost use Rattle.ordered.specs.declared.calls.Call.TheVariants.{Find};
-ghost use Rattle.inside.specs.Whole.{Sound, Does, state_of};
+ghost use Rattle.inside.specs.Whole.{Does, state_of};
 
-use crate::answers::{refused, reply};
 use crate::index::YFast;
 use dictionary::Dictionary;
 use key::Key;
@@ -12,19 +11,17 @@ use trie::locate;
 
 impl<K: Key, D: Dictionary> YFast<K, D> {
     pub fn find(&mut self, key: u64) -> Answer
-        requires { Sound K.Key.width (D.Dictionary.pairs self.old.dictionary) (D.Dictionary.room self.old.dictionary) (D.Dictionary.frames self.old.dictionary) self.old.inside }
-        ensures sound { Sound K.Key.width (D.Dictionary.pairs self.new.dictionary) (D.Dictionary.room self.new.dictionary) (D.Dictionary.frames self.new.dictionary) self.new.inside }
         ensures does { Does self.old.inside.shut K.Key.width self.old.inside.limit (state_of (D.Dictionary.pairs self.old.dictionary) (D.Dictionary.frames self.old.dictionary) self.old.inside) (Find key) [] (record { answer = result; places = [] }) (state_of (D.Dictionary.pairs self.new.dictionary) (D.Dictionary.frames self.new.dictionary) self.new.inside) }
         ensures inside { self.new.inside ≡ self.old.inside }
         ensures room { D.Dictionary.room self.new.dictionary ≡ D.Dictionary.room self.old.dictionary }
     {
-        if let Some(refusal) = self.bars(key, key) {
-            return refused(refusal, 0, 0);
+        if let Err(refusal) = self.admits(key, key) {
+            return Answer::refused(refusal, 0, 0);
         }
         let grove = &self.inside.grove;
         let at = locate::<K, D>(&mut self.dictionary, &grove.table, key);
         let root = grove.table.root(at.number);
         let found = trees::find(&grove.pool.nodes, root, key);
-        reply(found.entry, Refusal::Absent, at.frames, found.visits)
+        Answer::new(found.entry.ok_or(Refusal::Absent), at.frames, found.visits)
     }
 }

@@ -1,4 +1,7 @@
 // An index: its dictionary, and what it keeps beside it.
+ghost use Rattle.inside.specs.Whole.{Sound};
+ghost use Rattle.inside.specs.Props.{Sound-prop};
+
 use dictionary::Dictionary;
 pub use inside::Inside;
 use key::Key;
@@ -9,4 +12,5 @@ pub struct YFast<K: Key, D: Dictionary> {
     pub(crate) kind: PhantomData<K>,
     pub(crate) dictionary: D,
     pub(crate) inside: Inside,
+    ghost sound: { Sound K.width (D.pairs dictionary) (D.room dictionary) (D.frames dictionary) inside } by { Sound-prop K.width (D.pairs dictionary) (D.room dictionary) (D.frames dictionary) inside },
 }

@@ -1,9 +1,8 @@
 // The highest entry at or below a key.
 ghost use Rattle.std.specs.Prelude.{◌≡◌, []};
 ghost use Rattle.ordered.specs.declared.calls.Call.TheVariants.{Last};
-ghost use Rattle.inside.specs.Whole.{Sound, Does, state_of};
+ghost use Rattle.inside.specs.Whole.{Does, state_of};
 
-use crate::answers::{refused, reply};
 use crate::index::YFast;
 use dictionary::Dictionary;
 use key::Key;
@@ -13,18 +12,16 @@ use workings::near::last_from;
 
 impl<K: Key, D: Dictionary> YFast<K, D> {
     pub fn last(&mut self, key: u64) -> Answer
-        requires { Sound K.Key.width (D.Dictionary.pairs self.old.dictionary) (D.Dictionary.room self.old.dictionary) (D.Dictionary.frames self.old.dictionary) self.old.inside }
-        ensures sound { Sound K.Key.width (D.Dictionary.pairs self.new.dictionary) (D.Dictionary.room self.new.dictionary) (D.Dictionary.frames self.new.dictionary) self.new.inside }
         ensures does { Does self.old.inside.shut K.Key.width self.old.inside.limit (state_of (D.Dictionary.pairs self.old.dictionary) (D.Dictionary.frames self.old.dictionary) self.old.inside) (Last key) [] (record { answer = result; places = [] }) (state_of (D.Dictionary.pairs self.new.dictionary) (D.Dictionary.frames self.new.dictionary) self.new.inside) }
         ensures inside { self.new.inside ≡ self.old.inside }
         ensures room { D.Dictionary.room self.new.dictionary ≡ D.Dictionary.room self.old.dictionary }
     {
-        if let Some(refusal) = self.bars(key, key) {
-            return refused(refusal, 0, 0);
+        if let Err(refusal) = self.admits(key, key) {
+            return Answer::refused(refusal, 0, 0);
         }
         let grove = &self.inside.grove;
         let at = locate::<K, D>(&mut self.dictionary, &grove.table, key);
         let found = last_from(grove, at.number, key);
-        reply(found.entry, Refusal::Nothing, at.frames, found.visits)
+        Answer::new(found.entry.ok_or(Refusal::Nothing), at.frames, found.visits)
     }
 }

@@ -5,7 +5,7 @@
 #![tactic(auto)]
 
 mod add;
-mod answers;
+mod admits;
 mod call;
 mod find;
 pub mod index;

@@ -2,7 +2,6 @@
 // whether the index is shut. A shut index has no entry.
 ghost use Rattle.std.specs.Prelude.{◌≡◌, ◌≤◌, length};
 ghost use Rattle.inside.specs.Spans.{kept_in, over};
-ghost use Rattle.inside.specs.Whole.{Sound};
 
 use crate::index::YFast;
 use dictionary::Dictionary;
@@ -24,7 +23,6 @@ impl<K: Key, D: Dictionary> YFast<K, D> {
     }
 
     pub fn len(&self) -> usize
-        requires { Sound K.Key.width (D.Dictionary.pairs self.now.dictionary) (D.Dictionary.room self.now.dictionary) (D.Dictionary.frames self.now.dictionary) self.now.inside }
         ensures { result ≡ length (kept_in self.now.inside) }
     {
         if self.inside.shut {
@@ -36,8 +34,7 @@ impl<K: Key, D: Dictionary> YFast<K, D> {
 
     // Writes all entries in rising order into the first places; those after them stay.
     pub fn list(&self, places: &mut [Entry])
-        requires sound { Sound K.Key.width (D.Dictionary.pairs self.now.dictionary) (D.Dictionary.room self.now.dictionary) (D.Dictionary.frames self.now.dictionary) self.now.inside }
-        requires room { length (kept_in self.now.inside) ≤ length places.old }
+        requires { length (kept_in self.now.inside) ≤ length places.old }
         ensures { places.new ≡ over (kept_in self.now.inside) places.old }
     {
         if self.inside.shut {

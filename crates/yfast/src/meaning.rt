@@ -1,6 +1,5 @@
 // The y-fast index is an ordered index: what the trait asks of each call follows from what the index's own
 // calls promise. A shut index has no entry, and its limit reads 0.
-ghost use Rattle.inside.specs.Whole.{Sound};
 ghost use Rattle.inside.specs.Views.{seen_as};
 ghost use Rattle.inside.proofs.Seen.{lawful_as};
 
@@ -14,11 +13,9 @@ use ordered::index::OrderedIndex;
 impl<K: Key, D: Dictionary> OrderedIndex<K> for YFast<K, D> {
     ghost view = { λ s. seen_as s.inside.shut K.Key.width (D.Dictionary.pairs s.dictionary) (D.Dictionary.frames s.dictionary) s.inside };
 
-    ghost sound = { λ s. Sound K.Key.width (D.Dictionary.pairs s.dictionary) (D.Dictionary.room s.dictionary) (D.Dictionary.frames s.dictionary) s.inside };
-
-    ghost lawful = { λ s h.
+    ghost lawful = { λ s.
         let d = D.Dictionary in
-        lawful_as s.inside.shut K.Key.width (d.pairs s.dictionary) (d.room s.dictionary) (d.frames s.dictionary) s.inside (D.Dictionary.counts s.dictionary) h };
+        lawful_as s.inside.shut K.Key.width (d.pairs s.dictionary) (d.room s.dictionary) (d.frames s.dictionary) s.inside (D.Dictionary.counts s.dictionary) s.sound };
 
     fn add(&mut self, key: u64, note: u64) -> Answer {
         YFast::add(self, key, note)

@@ -2,9 +2,8 @@
 // is written, so a refusal leaves the places be.
 ghost use Rattle.std.specs.Prelude.{◌≡◌};
 ghost use Rattle.ordered.specs.declared.calls.Call.TheVariants.{Range};
-ghost use Rattle.inside.specs.Whole.{Sound, Does, state_of};
+ghost use Rattle.inside.specs.Whole.{Does, state_of};
 
-use crate::answers::refused;
 use crate::index::YFast;
 use dictionary::Dictionary;
 use entry::Entry;
@@ -15,20 +14,18 @@ use workings::spans::{count_span, write_span};
 
 impl<K: Key, D: Dictionary> YFast<K, D> {
     pub fn range(&mut self, first: u64, second: u64, places: &mut [Entry]) -> Answer
-        requires { Sound K.Key.width (D.Dictionary.pairs self.old.dictionary) (D.Dictionary.room self.old.dictionary) (D.Dictionary.frames self.old.dictionary) self.old.inside }
-        ensures sound { Sound K.Key.width (D.Dictionary.pairs self.new.dictionary) (D.Dictionary.room self.new.dictionary) (D.Dictionary.frames self.new.dictionary) self.new.inside }
         ensures does { Does self.old.inside.shut K.Key.width self.old.inside.limit (state_of (D.Dictionary.pairs self.old.dictionary) (D.Dictionary.frames self.old.dictionary) self.old.inside) (Range first second) places.old (record { answer = result; places = places.new }) (state_of (D.Dictionary.pairs self.new.dictionary) (D.Dictionary.frames self.new.dictionary) self.new.inside) }
         ensures inside { self.new.inside ≡ self.old.inside }
         ensures room { D.Dictionary.room self.new.dictionary ≡ D.Dictionary.room self.old.dictionary }
     {
-        if let Some(refusal) = self.bars(first, second) {
-            return refused(refusal, 0, 0);
+        if let Err(refusal) = self.admits(first, second) {
+            return Answer::refused(refusal, 0, 0);
         }
         let grove = &self.inside.grove;
         let at = locate::<K, D>(&mut self.dictionary, &grove.table, first);
         let number = count_span(grove, at.number, first, second);
         if number > places.len() {
-            return refused(Refusal::Room, at.frames, 0);
+            return Answer::refused(Refusal::Room, at.frames, 0);
         }
         write_span(grove, at.number, first, second, places);
         Answer {

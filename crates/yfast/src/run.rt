@@ -2,7 +2,7 @@
 // asks nothing of its caller.
 ghost use Rattle.std.specs.Prelude.{◌≡◌, length, take, drop, is_some};
 ghost use Rattle.ordered.specs.Fitness.{fitness};
-ghost use Rattle.inside.specs.Whole.{Sound, state_of};
+ghost use Rattle.inside.specs.Whole.{state_of};
 ghost use Rattle.inside.specs.Runs.{made, Ran, RanNew};
 
 use crate::index::YFast;
@@ -14,9 +14,7 @@ use ordered::{Answer, Call};
 impl<K: Key, D: Dictionary> YFast<K, D> {
     // Makes the calls while there are places for their answers, and tells how many it made.
     pub fn run(&mut self, calls: &[Call], answers: &mut [Answer], places: &mut [Entry]) -> usize
-        requires { Sound K.Key.width (D.Dictionary.pairs self.old.dictionary) (D.Dictionary.room self.old.dictionary) (D.Dictionary.frames self.old.dictionary) self.old.inside }
         ensures made { result ≡ made calls.now answers.old }
-        ensures sound { Sound K.Key.width (D.Dictionary.pairs self.new.dictionary) (D.Dictionary.room self.new.dictionary) (D.Dictionary.frames self.new.dictionary) self.new.inside }
         ensures ran { Ran self.old.inside.shut K.Key.width self.old.inside.limit (state_of (D.Dictionary.pairs self.old.dictionary) (D.Dictionary.frames self.old.dictionary) self.old.inside) places.old (take result calls.now) (take result answers.new) (state_of (D.Dictionary.pairs self.new.dictionary) (D.Dictionary.frames self.new.dictionary) self.new.inside) places.new }
         ensures rest { drop result answers.new ≡ drop result answers.old }
         ensures limit { self.new.inside.limit ≡ self.old.inside.limit }
@@ -24,8 +22,8 @@ impl<K: Key, D: Dictionary> YFast<K, D> {
         ensures room { D.Dictionary.room self.new.dictionary ≡ D.Dictionary.room self.old.dictionary }
     {
         let number = calls.len().min(answers.len());
-        for i in 0..number {
-            answers[i] = self.call(calls[i], places);
+        for (i, call) in calls[..number].iter().enumerate() {
+            answers[i] = self.call(*call, places);
         }
         number
     }
@@ -40,7 +38,6 @@ pub fn run_new<K: Key, D: Dictionary>(
     places: &mut [Entry],
 ) -> YFast<K, D>
     ensures shut { result.inside.shut ≡ is_some (fitness K.Key.width limit (D.Dictionary.room dictionary) (length (D.Dictionary.nodes dictionary)) (D.Dictionary.frames dictionary)) }
-    ensures sound { Sound K.Key.width (D.Dictionary.pairs result.dictionary) (D.Dictionary.room result.dictionary) (D.Dictionary.frames result.dictionary) result.inside }
     ensures ran { RanNew result.inside.shut (record { width = K.Key.width; bits = K.Key.bits; key = K.Key.key; before = K.Key.before }) limit (D.Dictionary.pairs dictionary) (D.Dictionary.frames dictionary) places.old (take (made calls.now answers.old) calls.now) (take (made calls.now answers.old) answers.new) (state_of (D.Dictionary.pairs result.dictionary) (D.Dictionary.frames result.dictionary) result.inside) places.new }
     ensures rest { drop (made calls.now answers.old) answers.new ≡ drop (made calls.now answers.old) answers.old }
 {

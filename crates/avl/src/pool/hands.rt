@@ -4,6 +4,8 @@ ghost use Rattle.std.specs.Prelude.{◌≡◌, ℕ, List, [], ◌∷◌, ◌++�
 ghost use Rattle.avl.specs.Spares.{free, Shared, Took};
 
 use crate::pool::Pool;
+use arrayvec::ArrayVec;
+use std::array;
 use trees::{NONE, Node};
 
 impl Pool {
@@ -18,14 +20,9 @@ impl Pool {
             right: NONE,
             height: 0,
         };
-        let mut spare = [0u16; 512];
-        for i in 0..512 {
-            spare[i] = i as u16;
-        }
         Pool {
             nodes: [blank; 512],
-            spare,
-            count: 512,
+            spare: ArrayVec::from(array::from_fn(|i| i as u16)),
         }
     }
 
@@ -34,11 +31,7 @@ impl Pool {
         ensures took { Took self.old self.new result }
         ensures nodes { self.new.nodes ≡ self.old.nodes }
     {
-        if self.count == 0 {
-            return None;
-        }
-        self.count -= 1;
-        Some(self.spare[self.count as usize])
+        self.spare.pop()
     }
 
     // Takes back a node that was handed out.
@@ -48,7 +41,6 @@ impl Pool {
         ensures shared { (used : List ℕ) → Shared (node ∷ used) (free self.old) → Shared used (free self.new) }
         ensures nodes { self.new.nodes ≡ self.old.nodes }
     {
-        self.spare[self.count as usize] = node;
-        self.count += 1;
+        self.spare.push(node);
     }
 }

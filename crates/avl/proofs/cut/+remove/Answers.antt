@@ -1,15 +1,13 @@
 use Rattle.std.proofs.Common.{arith}
+use Rattle.std.proofs.lemmas.Cmp.{ranked}
 use Rattle.trees.proofs.Pools.{opened, falls_left, falls_right, low}
 use Rattle.avl.proofs.Removals.{held_root, held_left, held_right, left_loose, left_near, cut_left_rising, cut_left, cut_right_loose, cut_right_near, cut_right, cut_here}
 use Rattle.avl.proofs.cut.+remove.Goals as goal
 
-pub slice_copy_out-here : goal.slice_copy_out-here
-slice_copy_out-here t c = (opened c.args.nodes.now c.args.root c.requires.stands (held_root c.args.nodes.now c.args.root c.args.key c.requires)).inside
-
 pub remove-left-requires : goal.remove-left-requires
 remove-left-requires t c =
     let o = opened c.args.nodes.now c.args.root c.requires.stands (held_root c.args.nodes.now c.args.root c.args.key c.requires) in
-    (falls_left c.args.nodes.now c.args.root t c.requires.stands o c.decreases, held_left c.args.nodes.now c.args.root c.requires.stands o c.args.key c.if-key-here.true c.requires)
+    (falls_left c.args.nodes.now c.args.root t c.requires.stands o c.decreases, held_left c.args.nodes.now c.args.root c.requires.stands o c.args.key (ranked _ _ _ c.in-Less.ensures) c.requires)
 
 pub level-top-requires : goal.level-top-requires
 level-top-requires t c =
@@ -18,7 +16,7 @@ level-top-requires t c =
     let near = left_near c.args.nodes.now c.args.root c.requires.stands o c.remove-left.new.nodes c.remove-left.result.gone c.remove-left.result.root d.lost in
     record {
       loose = left_loose c.args.nodes.now c.args.root c.requires.stands o c.remove-left.new.nodes c.remove-left.result.gone c.remove-left.result.root d.lost
-          (cut_left_rising c.args.nodes.now c.args.root c.requires.stands o c.args.key c.if-key-here.true c.remove-left.new.nodes c.remove-left.result d);
+          (cut_left_rising c.args.nodes.now c.args.root c.requires.stands o c.args.key (ranked _ _ _ c.in-Less.ensures) c.remove-left.new.nodes c.remove-left.result d);
       low = near.0;
       high = near.1;
     }
@@ -28,40 +26,37 @@ overflow_add-result t c =
     let o = opened c.args.nodes.now c.args.root c.requires.stands (held_root c.args.nodes.now c.args.root c.args.key c.requires) in
     omega (arith, c.remove-left.ensures.few, low _ _ _ o.left)
 
-pub returns-then-key-here : goal.returns-then-key-here
-returns-then-key-here t c =
+pub returns-in-Less : goal.returns-in-Less
+returns-in-Less t c =
     let o = opened c.args.nodes.now c.args.root c.requires.stands (held_root c.args.nodes.now c.args.root c.args.key c.requires) in
-    cut_left c.args.nodes.now c.args.root c.requires.stands o c.args.key c.if-key-here.true c.remove-left.new.nodes c.remove-left.result c.remove-left.ensures _ _ c.level-top.ensures
+    cut_left c.args.nodes.now c.args.root c.requires.stands o c.args.key (ranked _ _ _ c.in-Less.ensures) c.remove-left.new.nodes c.remove-left.result c.remove-left.ensures _ _ c.level-top.ensures
 
 pub remove-right-requires : goal.remove-right-requires
 remove-right-requires t c =
     let o = opened c.args.nodes.now c.args.root c.requires.stands (held_root c.args.nodes.now c.args.root c.args.key c.requires) in
-    (falls_right c.args.nodes.now c.args.root t c.requires.stands o c.decreases, held_right c.args.nodes.now c.args.root c.requires.stands o c.args.key c.if-here-key.true c.requires)
+    (falls_right c.args.nodes.now c.args.root t c.requires.stands o c.decreases, held_right c.args.nodes.now c.args.root c.requires.stands o c.args.key (ranked _ _ _ c.in-Greater.ensures) c.requires)
 
-pub level-top-requires-then-here-key : goal.level-top-requires-then-here-key
-level-top-requires-then-here-key t c =
+pub level-top-requires-in-Greater : goal.level-top-requires-in-Greater
+level-top-requires-in-Greater t c =
     let o = opened c.args.nodes.now c.args.root c.requires.stands (held_root c.args.nodes.now c.args.root c.args.key c.requires) in
-    let near = cut_right_near c.args.nodes.now c.args.root c.requires.stands o c.args.key c.if-here-key.true c.remove-right.new.nodes c.remove-right.result c.remove-right.ensures in
+    let near = cut_right_near c.args.nodes.now c.args.root c.requires.stands o c.args.key (ranked _ _ _ c.in-Greater.ensures) c.remove-right.new.nodes c.remove-right.result c.remove-right.ensures in
     record {
-      loose = cut_right_loose c.args.nodes.now c.args.root c.requires.stands o c.args.key c.if-here-key.true c.remove-right.new.nodes c.remove-right.result c.remove-right.ensures;
+      loose = cut_right_loose c.args.nodes.now c.args.root c.requires.stands o c.args.key (ranked _ _ _ c.in-Greater.ensures) c.remove-right.new.nodes c.remove-right.result c.remove-right.ensures;
       low = near.0;
       high = near.1;
     }
 
-pub overflow_add-result-then-here-key : goal.overflow_add-result-then-here-key
-overflow_add-result-then-here-key t c =
+pub overflow_add-result-in-Greater : goal.overflow_add-result-in-Greater
+overflow_add-result-in-Greater t c =
     let o = opened c.args.nodes.now c.args.root c.requires.stands (held_root c.args.nodes.now c.args.root c.args.key c.requires) in
     omega (arith, c.remove-right.ensures.few, low _ _ _ o.right)
 
-pub returns-then-here-key : goal.returns-then-here-key
-returns-then-here-key t c =
+pub returns-in-Greater : goal.returns-in-Greater
+returns-in-Greater t c =
     let o = opened c.args.nodes.now c.args.root c.requires.stands (held_root c.args.nodes.now c.args.root c.args.key c.requires) in
-    cut_right c.args.nodes.now c.args.root c.requires.stands o c.args.key c.if-here-key.true c.remove-right.new.nodes c.remove-right.result c.remove-right.ensures _ _ c.level-top-then-here-key.ensures
+    cut_right c.args.nodes.now c.args.root c.requires.stands o c.args.key (ranked _ _ _ c.in-Greater.ensures) c.remove-right.new.nodes c.remove-right.result c.remove-right.ensures _ _ c.level-top-in-Greater.ensures
 
-pub drop_root-top-requires : goal.drop_root-top-requires
-drop_root-top-requires t c = record { tree = c.requires.stands; some = held_root c.args.nodes.now c.args.root c.args.key c.requires }
-
-pub returns : goal.returns
-returns t c =
+pub returns-in-Equal : goal.returns-in-Equal
+returns-in-Equal t c =
     let o = opened c.args.nodes.now c.args.root c.requires.stands (held_root c.args.nodes.now c.args.root c.args.key c.requires) in
-    cut_here c.args.nodes.now c.args.root c.requires.stands o c.args.key _ _ (omega (arith, c.if-key-here.false, c.if-here-key.false)) c.drop_root-top.ensures
+    cut_here c.args.nodes.now c.args.root c.requires.stands o c.args.key _ _ (ranked _ _ _ c.in-Equal.ensures) c.drop_root-top.ensures

@@ -2,9 +2,6 @@ use Rattle.trees.proofs.Pools.{opened, falls_left}
 use Rattle.avl.proofs.Removals.{first_here, left_loose, left_near, first_rising, first_after}
 use Rattle.avl.proofs.cut.+take_first.Goals as goal
 
-pub slice_copy_out-here : goal.slice_copy_out-here
-slice_copy_out-here t c = (opened c.args.nodes.now c.args.root c.requires.tree c.requires.some).inside
-
 pub returns-then-here : goal.returns-then-here
 returns-then-here t c = first_here c.args.nodes.now c.args.root c.requires.tree (opened c.args.nodes.now c.args.root c.requires.tree c.requires.some) c.if-here.true
 

@@ -2,9 +2,6 @@ use Rattle.trees.proofs.Pools.{opened}
 use Rattle.avl.proofs.Removals.{rootless_left, rootless_right, root_loose, root_near, rootless_both}
 use Rattle.avl.proofs.cut.drop_root.Goals as goal
 
-pub slice_copy_out-here : goal.slice_copy_out-here
-slice_copy_out-here c = (opened c.args.nodes.now c.args.root c.requires.tree c.requires.some).inside
-
 pub returns-then-here : goal.returns-then-here
 returns-then-here c = rootless_left c.args.nodes.now c.args.root c.requires.tree (opened c.args.nodes.now c.args.root c.requires.tree c.requires.some) c.if-here.true
 

@@ -3,14 +3,8 @@ use Rattle.trees.proofs.Pools.{opened, falls_left, falls_right, low}
 use Rattle.avl.proofs.Inserts.{grew_leaf, fresh_left, fresh_right, loose_left, near_left, grew_left, loose_right, near_right, grew_right}
 use Rattle.avl.proofs.grow.+insert.Goals as goal
 
-pub bounds-nodes-fresh : goal.bounds-nodes-fresh
-bounds-nodes-fresh t c = c.requires.inside
-
 pub returns-then-root-eq-NONE : goal.returns-then-root-eq-NONE
 returns-then-root-eq-NONE t c = grew_leaf c.args.nodes.now c.args.root c.args.fresh c.args.new c.requires c.if-root-eq-NONE.true
-
-pub slice_copy_out-here : goal.slice_copy_out-here
-slice_copy_out-here t c = (opened c.args.nodes.now c.args.root c.requires.stands c.if-root-eq-NONE.false).inside
 
 pub insert-left-requires : goal.insert-left-requires
 insert-left-requires t c =

@@ -1,6 +1,6 @@
 use Rattle.std.proofs.Common.{arith}
 use Rattle.trees.specs.Pools.{node_at}
-use Rattle.avl.proofs.Levels.{bound, right_open, right_outer_open, right_outer_four, right_outer, right_inner_open, right_inner_four, right_inner}
+use Rattle.avl.proofs.Levels.{bound, right_open, right_outer_open, right_outer_four, right_outer, right_inner_four, right_inner}
 use Rattle.avl.proofs.turns.lean_left.Goals as goal
 
 pub slice_copy_out-high : goal.slice_copy_out-high
@@ -14,9 +14,6 @@ height_of-requires-2 c = bound c.args.nodes.now (node_at c.args.nodes.now c.args
 
 pub slice_copy_out-outer : goal.slice_copy_out-outer
 slice_copy_out-outer c = (right_outer_open c.args.nodes.now c.args.i c.args.left c.args.right c.requires.loose c.requires.two (omega (arith, c.height_of.ensures, c.height_of-2.ensures, c.if-height_of.true))).inside
-
-pub slice_copy_out-inner : goal.slice_copy_out-inner
-slice_copy_out-inner c = (right_inner_open c.args.nodes.now c.args.i c.args.left c.args.right c.requires.loose c.requires.two (omega (arith, c.height_of.ensures, c.height_of-2.ensures, c.if-height_of.false))).inside
 
 pub crown-requires : goal.crown-requires
 crown-requires c = right_outer_four c.args.nodes.now c.args.i c.args.left c.args.right c.requires.loose c.requires.two (omega (arith, c.height_of.ensures, c.height_of-2.ensures, c.if-height_of.true))

@@ -6,9 +6,6 @@ use Rattle.avl.specs.Turns.{Level}
 use Rattle.avl.proofs.Levels.{bound, hang_hook, from_hang}
 use Rattle.avl.proofs.turns.level.Goals as goal
 
-pub height_of-low-requires : goal.height_of-low-requires
-height_of-low-requires c = bound c.args.nodes.now c.args.left c.requires.loose.lower
-
 pub height_of-high-requires : goal.height_of-high-requires
 height_of-high-requires c = bound c.args.nodes.now c.args.right c.requires.loose.upper
 
@@ -17,12 +14,6 @@ overflow_add-high c = omega (arith, c.height_of-high.ensures, high_is _ _ c.requ
 
 pub overflow_add-low : goal.overflow_add-low
 overflow_add-low c = omega (arith, c.height_of-low.ensures, high_is _ _ c.requires.loose.lower, low _ _ _ c.requires.loose.lower)
-
-pub lean_right-requires : goal.lean_right-requires
-lean_right-requires c = record { loose = c.requires.loose; two = omega (arith, c.height_of-low.ensures, c.height_of-high.ensures, high_is _ _ c.requires.loose.lower, high_is _ _ c.requires.loose.upper, c.if-low-high.true, c.requires.low) }
-
-pub lean_left-requires : goal.lean_left-requires
-lean_left-requires c = record { loose = c.requires.loose; two = omega (arith, c.height_of-low.ensures, c.height_of-high.ensures, high_is _ _ c.requires.loose.lower, high_is _ _ c.requires.loose.upper, c.if-high-low.true, c.requires.high) }
 
 pub hang-requires : goal.hang-requires
 hang-requires c = hang_hook c.args.nodes.now c.args.i c.args.left c.args.right c.requires.loose

@@ -14,7 +14,6 @@ loop-number-init g c =
     let rest : chunks_exact_rest (enumerate_source c.into_iter-number-iterator.result) ≡ c.args.bytes.now = ap (λ e. chunks_exact_rest e) src ∙ c.chunks_exact.ensures.rest in (
       (rw size (omega arith), tt, inl (rw (n, rest, size) (omega arith))),
       tt,
-      c.requires.sound,
       size,
       rw (n, rest) (record { rest_is = refl; within = omega arith }),
       rw n (taking_start (g.B.Ledger.view c.args.book.now) c.args.bytes.now),
@@ -32,16 +31,15 @@ loop-number-preserved g c =
     let part = c.in-Some.part.now in
     let steps = c.in-Some.ensures.steps in
     let goes = c.in-Some.ensures.goes.on inv.1 in
-    let long : length part ≡ 32 = steps.0.1.1 ∙ inv.3 in
-    let is = part_is bytes rest part rest' n inv.4 steps.0.1.0 long in
-    let tried = c.in-Ok.ensures.tried in (
+    let long : length part ≡ 32 = steps.0.1.1 ∙ inv.2 in
+    let is = part_is bytes rest part rest' n inv.3 steps.0.1.0 long in
+    let tried = c.in-Ok.ensures in (
       goes.0,
       goes.1,
-      c.take.ensures.sound,
-      steps.0.0 ∙ inv.3,
-      rw steps.2 (reading_more bytes rest part rest' n inv.4 steps.0.1.0 long),
+      steps.0.0 ∙ inv.2,
+      rw steps.2 (reading_more bytes rest part rest' n inv.3 steps.0.1.0 long),
       rw steps.2
-          (taking_more (m.view c.args.book.now) (m.view c.loop-number.book) (m.view c.take.new.book) bytes n c.loop-number.before part c.in-Ok.form tried.0 tried.1 is inv.5
+          (taking_more (m.view c.args.book.now) (m.view c.loop-number.book) (m.view c.take.new.book) bytes n c.loop-number.before part c.in-Ok.form tried.0 tried.1 is inv.4
           tried.2 tried.3),
     )
 
@@ -51,12 +49,9 @@ returns g c =
     let inv = c.loop-number.invariant in
     let it = c.loop-number.number-iterator in
     let steps = c.in-None.ensures.steps in
-    let n = all_read c.args.bytes.now (chunks_exact_rest (enumerate_source it)) (enumerate_count it) inv.4 (omega (arith, steps.0.1.0, inv.3)) in
-    record {
-      sound = inv.2;
-      taken = taken_whole (m.view c.args.book.now) (m.view c.loop-number.book) c.args.bytes.now (enumerate_count it) c.loop-number.before inv.5
-          (g.met.B.Ledger.standing c.loop-number.book inv.2) n;
-    }
+    let n = all_read c.args.bytes.now (chunks_exact_rest (enumerate_source it)) (enumerate_count it) inv.3 (omega (arith, steps.0.1.0, inv.2)) in
+    taken_whole (m.view c.args.book.now) (m.view c.loop-number.book) c.args.bytes.now (enumerate_count it) c.loop-number.before inv.4
+    (g.met.B.Ledger.standing c.loop-number.book) n
 
 pub returns-in-Err : goal.returns-in-Err
 returns-in-Err g c =
@@ -69,13 +64,10 @@ returns-in-Err g c =
     let rest' = chunks_exact_rest (enumerate_source c.next.new.self) in
     let part = c.in-Some.part.now in
     let steps = c.in-Some.ensures.steps in
-    let long : length part ≡ 32 = steps.0.1.1 ∙ inv.3 in
-    let is = part_is bytes rest part rest' n inv.4 steps.0.1.0 long in
-    let few = some_left bytes rest part rest' n inv.4 steps.0.1.0 long in
-    let tried = c.in-Err.ensures.tried in
-    record {
-      sound = c.take.ensures.sound;
-      taken = rw steps.1
-          (taken_part (m.view c.args.book.now) (m.view c.loop-number.book) (m.view c.take.new.book) bytes part n c.loop-number.before c.in-Err.refusal tried.0 inv.5
-          (g.met.B.Ledger.standing c.loop-number.book inv.2) few is tried.1);
-    }
+    let long : length part ≡ 32 = steps.0.1.1 ∙ inv.2 in
+    let is = part_is bytes rest part rest' n inv.3 steps.0.1.0 long in
+    let few = some_left bytes rest part rest' n inv.3 steps.0.1.0 long in
+    let tried = c.in-Err.ensures in
+    rw steps.1
+    (taken_part (m.view c.args.book.now) (m.view c.loop-number.book) (m.view c.take.new.book) bytes part n c.loop-number.before c.in-Err.refusal tried.0 inv.4
+    (g.met.B.Ledger.standing c.loop-number.book) few is tried.1)

@@ -10,7 +10,6 @@ invariant-loop-number g l =
     let n = enumerate_count l.number-iterator in
     (goal.iterator-loop-number g).can_next l.number-iterator
     × (goal.iterator-loop-number g).is_finite l.number-iterator
-    × m.sound l.book
     × (chunks_exact_size (enumerate_source l.number-iterator) ≡ 32)
     × Reading l.bytes (chunks_exact_rest (enumerate_source l.number-iterator)) n
     × Taking (m.view l.initial.book) l.bytes n l.before (m.view l.book)

@@ -6,12 +6,12 @@ use Rattle.saves.proofs.save.write_part.Goals as goal
 pub list-requires : goal.list-requires
 list-requires g c =
     let b = g.B.Ledger.view c.args.book.now in
-    record { sound = c.requires.sound; room = part_few c.args.part b (g.met.B.Ledger.standing c.args.book.now c.requires.sound) c.requires.unshut }
+    part_few c.args.part b (g.met.B.Ledger.standing c.args.book.now) c.requires.unshut
 
 pub slice_bounds-write-end : goal.slice_bounds-write-end
 slice_bounds-write-end g c =
     let b = g.B.Ledger.view c.args.book.now in
-    let few = part_few c.args.part b (g.met.B.Ledger.standing c.args.book.now c.requires.sound) c.requires.unshut in
+    let few = part_few c.args.part b (g.met.B.Ledger.standing c.args.book.now) c.requires.unshut in
     let short : c.len-count.result ≤ 256 = omega (arith, c.len-count.ensures) in
     search rules
 
@@ -20,7 +20,7 @@ write-requires g c =
     let b = g.B.Ledger.view c.args.book.now in
     let xs = (look c.args.part b).entries in
     let part = front_is xs _ c.list.new.places c.len-count.result c.len-count.ensures c.list.ensures in
-    record { keys = rw part (part_keys c.args.part b (g.met.B.Ledger.standing c.args.book.now c.requires.sound)); room = rw part c.requires.room }
+    record { keys = rw part (part_keys c.args.part b (g.met.B.Ledger.standing c.args.book.now)); room = rw part c.requires.room }
 
 pub returns : goal.returns
 returns g c =

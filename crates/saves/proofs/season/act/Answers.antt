@@ -8,9 +8,9 @@ use Rattle.saves.proofs.season.act.Goals as goal
 pub returns-in-Command : goal.returns-in-Command
 returns-in-Command g c =
     let A : Deed → Type 0 = λ d. Acts (g.B.Ledger.view c.args.book.now) c.args.bytes.now d (Answered c.serve.result) (g.B.Ledger.view c.serve.new.book) in
-    record { sound = c.serve.ensures.sound; acts = subst A (sym c.in-Command.is) (acts_command c.serve.ensures.served) }
+    subst A (sym c.in-Command.is) (acts_command c.serve.ensures)
 
 pub returns-in-Load : goal.returns-in-Load
 returns-in-Load g c =
     let A : Deed → Type 0 = λ d. Acts (g.B.Ledger.view c.args.book.now) c.args.bytes.now d (Loaded c.load.result) (g.B.Ledger.view c.load.new.book) in
-    record { sound = c.load.ensures.sound; acts = subst A (sym c.in-Load.is) (acts_load c.load.ensures.loads) }
+    subst A (sym c.in-Load.is) (acts_load c.load.ensures.loads)

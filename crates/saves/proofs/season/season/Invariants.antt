@@ -4,4 +4,4 @@ use Rattle.saves.proofs.season.season.Given as goal
 abbrev pub invariant-loop-i : goal.invariant-loop-i
 invariant-loop-i g l =
     let m = g.B.Ledger in
-    m.sound l.book × Going (m.view l.initial.book) l.tape l.deeds l.initial.outcomes l.i l.at l.outcomes (m.view l.book)
+    Going (m.view l.initial.book) l.tape l.deeds l.initial.outcomes l.i l.at l.outcomes (m.view l.book)

@@ -1,36 +1,18 @@
-use Rattle.std.proofs.Common.{Some, sym, refl, ap, ◌∙◌, arith}
-use Rattle.std.specs.Option.{option_or}
+use Rattle.std.proofs.Common.{sym, ap, ◌∙◌, arith}
 use Rattle.trees.specs.Trees.{entries}
-use Rattle.trees.specs.Pools.{entry_at, left_at, right_at}
+use Rattle.trees.specs.Pools.{left_at}
 use Rattle.trees.specs.Answers.{hindmost}
-use Rattle.trees.proofs.Pools.{opened, end_is, falls_right, low}
-use Rattle.trees.proofs.Looks.{saw_none, back_or, entries_open, tall_open, high_open}
+use Rattle.trees.proofs.Pools.{opened, steps_right}
+use Rattle.trees.proofs.Looks.{saw_or, saw_few, back_or, entries_open, tall_open, high_open}
 use Rattle.trees.proofs.ends.+last_entry.Goals as goal
 
-pub returns-then-root-eq-NONE : goal.returns-then-root-eq-NONE
-returns-then-root-eq-NONE t c = rw (end_is c.args.nodes.now c.args.root c.if-root-eq-NONE.true) (saw_none _ _ _ refl refl)
+pub last_entry-requires : goal.last_entry-requires
+last_entry-requires t c = steps_right _ _ t c.requires c.if-root-eq-NONE.false c.decreases
 
-pub bounds-nodes-root : goal.bounds-nodes-root
-bounds-nodes-root t c = (opened c.args.nodes.now c.args.root c.requires c.if-root-eq-NONE.false).inside
-
-pub last_entry-right-requires : goal.last_entry-right-requires
-last_entry-right-requires t c =
-    let o = opened c.args.nodes.now c.args.root c.requires c.if-root-eq-NONE.false in
-    (falls_right c.args.nodes.now c.args.root t c.requires o c.decreases, o.right)
-
-pub overflow_add-result : goal.overflow_add-result
-overflow_add-result t c =
-    let o = opened c.args.nodes.now c.args.root c.requires c.if-root-eq-NONE.false in
-    omega (arith, c.last_entry-right.ensures.few, low _ _ _ o.right)
+pub or_here-requires : goal.or_here-requires
+or_here-requires t c = saw_few (opened _ _ c.requires c.if-root-eq-NONE.false).right c.last_entry.ensures
 
 pub returns : goal.returns
 returns t c =
-    let ns = c.args.nodes.now in
-    let root = c.args.root in
-    let o = opened ns root c.requires c.if-root-eq-NONE.false in
-    let s = c.last_entry-right.ensures in
-    record {
-      entry = c.or.ensures ∙ (λ d. option_or (s.entry d) (Some (c.entry.ensures d))) ∙ back_or (entries (left_at ns root)) (entry_at ns root) (entries (right_at ns root)) ∙ sym (ap hindmost (entries_open ns root o));
-      visits = omega (arith, s.visits, high_open ns root o);
-      few = omega (arith, s.few, tall_open ns root o);
-    }
+    let o = opened _ _ c.requires c.if-root-eq-NONE.false in
+    saw_or _ c.or_here.ensures c.last_entry.ensures (ap hindmost (entries_open _ _ o) ∙ sym (back_or (entries (left_at _ _)) _ _)) (high_open _ _ o) (omega (arith, tall_open _ _ o))

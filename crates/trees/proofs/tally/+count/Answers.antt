@@ -1,20 +1,10 @@
 use Rattle.std.proofs.Common.{length, sym, ap, ◌∙◌, arith}
-use Rattle.entry.specs.Lists.{between}
-use Rattle.trees.specs.Trees.{entries}
-use Rattle.trees.proofs.Pools.{opened, end_is, falls_left, falls_right}
+use Rattle.trees.proofs.Pools.{opened, steps_left, steps_right}
 use Rattle.trees.proofs.Looks.{span_low, span_high, span_long, span_few}
 use Rattle.trees.proofs.tally.+count.Goals as goal
 
-pub returns-then-root-eq-NONE : goal.returns-then-root-eq-NONE
-returns-then-root-eq-NONE t c = sym (ap (λ q. length (between c.args.first c.args.second (entries q))) (end_is c.args.nodes.now c.args.root c.if-root-eq-NONE.true))
-
-pub bounds-nodes-root : goal.bounds-nodes-root
-bounds-nodes-root t c = (opened c.args.nodes.now c.args.root c.requires c.if-root-eq-NONE.false).inside
-
 pub count-requires : goal.count-requires
-count-requires t c =
-    let o = opened c.args.nodes.now c.args.root c.requires c.if-root-eq-NONE.false in
-    (falls_right c.args.nodes.now c.args.root t c.requires o c.decreases, o.right)
+count-requires t c = steps_right _ _ t c.requires c.if-root-eq-NONE.false c.decreases
 
 pub returns-then-here-first : goal.returns-then-here-first
 returns-then-here-first t c =
@@ -22,9 +12,7 @@ returns-then-here-first t c =
     c.count.ensures ∙ sym (ap length (span_high c.args.nodes.now c.args.root o c.args.first c.args.second c.if-here-first.true))
 
 pub count-requires-then-second-here : goal.count-requires-then-second-here
-count-requires-then-second-here t c =
-    let o = opened c.args.nodes.now c.args.root c.requires c.if-root-eq-NONE.false in
-    (falls_left c.args.nodes.now c.args.root t c.requires o c.decreases, o.left)
+count-requires-then-second-here t c = steps_left _ _ t c.requires c.if-root-eq-NONE.false c.decreases
 
 pub returns-then-second-here : goal.returns-then-second-here
 returns-then-second-here t c =
@@ -32,14 +20,10 @@ returns-then-second-here t c =
     c.count-then-second-here.ensures ∙ sym (ap length (span_low c.args.nodes.now c.args.root o c.args.first c.args.second c.if-second-here.true))
 
 pub count-low-requires : goal.count-low-requires
-count-low-requires t c =
-    let o = opened c.args.nodes.now c.args.root c.requires c.if-root-eq-NONE.false in
-    (falls_left c.args.nodes.now c.args.root t c.requires o c.decreases, o.left)
+count-low-requires t c = steps_left _ _ t c.requires c.if-root-eq-NONE.false c.decreases
 
 pub count-high-requires : goal.count-high-requires
-count-high-requires t c =
-    let o = opened c.args.nodes.now c.args.root c.requires c.if-root-eq-NONE.false in
-    (falls_right c.args.nodes.now c.args.root t c.requires o c.decreases, o.right)
+count-high-requires t c = steps_right _ _ t c.requires c.if-root-eq-NONE.false c.decreases
 
 pub returns : goal.returns
 returns t c =

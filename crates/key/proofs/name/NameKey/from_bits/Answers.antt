@@ -1,9 +1,13 @@
-use Rattle.std.proofs.Common.{◌^◌, [], ◌∷◌, get_or, sym, ap, ◌∙◌, arith}
-use Rattle.key.specs.Kinds.{name_at}
-use Rattle.key.specs.Same.{name_same}
-use Rattle.key.specs.Within.{within_again}
+use Rattle.std.proofs.Common.{◌^◌, ◌<◌, get_or, sym, ap, ◌∙◌, arith}
+use Rattle.key.specs.Same.{names}
+use Rattle.key.specs.Within.{reads}
+use Rattle.digits.proofs.Sevens.{seven_back}
+use Rattle.std.specs.Int.Digits.{number_from_digits}
 use Rattle.key.proofs.name.NameKey.from_bits.Goals as goal
 
-pub returns-then-number-lt72057594037927936 : goal.returns-then-number-lt72057594037927936
-returns-then-number-lt72057594037927936 c =
-    sym (within_again (2 ^ 56) name_at c.args.number c.new.result (omega arith) (name_same _ _ (sym (c.new.ensures ∙ ap (λ bs. get_or bs 1 0 ∷ get_or bs 2 0 ∷ get_or bs 3 0 ∷ get_or bs 4 0 ∷ get_or bs 5 0 ∷ get_or bs 6 0 ∷ get_or bs 7 0 ∷ []) c.to_be_bytes.ensures))))
+pub returns : goal.returns
+returns c =
+    let n = c.args.number in
+    let small : n < 2 ^ 56 = omega (arith, ap (λ bs. get_or bs 0 0) c.to_be_bytes.ensures) in
+    let bytes = rw c.to_be_bytes.ensures at c.new.ensures in
+    sym (reads names n _ (ap (number_from_digits 256) bytes ∙ seven_back n small))

@@ -1,9 +1,9 @@
-use Rattle.std.proofs.Common.{◌^◌, sym, arith}
-use Rattle.key.specs.Kinds.{station_at}
-use Rattle.key.specs.Same.{station_same}
-use Rattle.key.specs.Within.{within_again}
+use Rattle.std.proofs.Common.{◌≡◌, ◌/◌, ◌^◌, sym, arith, rules}
+use Rattle.key.specs.Same.{stations}
+use Rattle.key.specs.Within.{reads}
 use Rattle.key.proofs.station.StationKey.from_bits.Goals as goal
 
-pub returns-then-number-lt4294967296 : goal.returns-then-number-lt4294967296
-returns-then-number-lt4294967296 c =
-    sym (within_again (2 ^ 32) station_at c.args.number _ (omega arith) (station_same _ _ (omega arith) (omega arith)))
+pub returns : goal.returns
+returns c =
+    let high : c.in_ok-ok.field-0 ≡ c.args.number / 2 ^ 24 = search rules in
+    sym (reads stations c.args.number _ (omega arith))

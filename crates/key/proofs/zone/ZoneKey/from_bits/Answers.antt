@@ -1,9 +1,9 @@
-use Rattle.std.proofs.Common.{sym, arith}
-use Rattle.key.specs.Kinds.{zone_at}
-use Rattle.key.specs.Same.{zone_same}
-use Rattle.key.specs.Within.{within_again}
+use Rattle.std.proofs.Common.{◌≡◌, sym, arith, rules}
+use Rattle.key.specs.Same.{zones}
+use Rattle.key.specs.Within.{reads}
 use Rattle.key.proofs.zone.ZoneKey.from_bits.Goals as goal
 
-pub returns-then-number-lt256 : goal.returns-then-number-lt256
-returns-then-number-lt256 c =
-    sym (within_again 256 zone_at c.args.number c.new.result (omega arith) (zone_same _ _ (omega arith)))
+pub returns : goal.returns
+returns c =
+    let number : c.in_ok-ok.field-0 ≡ c.args.number = search rules in
+    sym (reads zones c.args.number _ (omega arith))

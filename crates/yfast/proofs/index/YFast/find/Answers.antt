@@ -16,17 +16,17 @@ use Rattle.ordered.specs.declared.calls.Call.TheVariants.{Find}
 use Rattle.ordered.specs.declared.refusal.Refusal.TheVariants.{Absent}
 use Rattle.runs.specs.States.{Answered}
 use Rattle.inside.specs.Whole.{state_of, Does}
-use Rattle.inside.specs.Answers.{reply_of}
+use Rattle.ordered.specs.Answers.{answer_of, reply_of}
 use Rattle.inside.proofs.Quiet.{one_key, find_step}
-use Rattle.inside.proofs.Finds.{barred_does, open_whole, one_fits, open_does, sound_kept}
+use Rattle.inside.proofs.Finds.{barred_does, open_whole, one_fits, open_does}
 use Rattle.yfast.proofs.index.YFast.find.Goals as goal
 
 answer_with : Answer → Answered
 answer_with r = record { answer = r; places = [] }
 
-pub returns-in-Some : goal.returns-in-Some
+pub returns-in-Err : goal.returns-in-Err
 unfolding answer_with
-returns-in-Some g c =
+returns-in-Err g c =
     let k = c.args.key in
     let i = c.args.self.now.inside in
     let d = c.args.self.now.dictionary in
@@ -34,9 +34,8 @@ returns-in-Some g c =
     let f = g.D.Dictionary.pairs d in
     let room = g.D.Dictionary.room d in
     let tally = g.D.Dictionary.frames d in
-    let does = barred_does i.shut w f room tally i g.met.K.Key.wide.0 (g.met.D.Dictionary.counts d) refl c.requires (Find k) [] k k c.in-Some.refusal (one_key w k) c.in-Some.ensures in
+    let does = barred_does i.shut w f room tally i g.met.K.Key.wide.0 (g.met.D.Dictionary.counts d) refl c.args.self.now.sound (Find k) [] k k c.in-Err.refusal (one_key w k) c.in-Err.ensures in
     record {
-      sound = c.requires;
       does = subst (λ r. Does i.shut w i.limit (state_of f tally i) (Find k) [] (answer_with r) (state_of f tally i)) (sym c.refused.ensures) does;
       inside = refl;
       room = refl;
@@ -44,17 +43,14 @@ returns-in-Some g c =
 
 pub root-root-requires : goal.root-root-requires
 root-root-requires g c =
-    let i = c.args.self.now.inside in
-    let k = c.args.key in
-    let o = open_whole _ _ _ _ i k k c.requires c.in_default.ensures in
-    small i.grove.table c.locate-at.result.number c.locate-at.ensures.held
+    small c.args.self.now.inside.grove.table c.locate-at.result.number c.locate-at.ensures.held
 
 pub find-found-requires : goal.find-found-requires
 find-found-requires g c =
     let i = c.args.self.now.inside in
     let k = c.args.key in
-    let o = open_whole _ _ _ _ i k k c.requires c.in_default.ensures in
-    subst (Standing i.grove.pool.nodes) (sym c.root-root.ensures) (all_among (λ n. Standing i.grove.pool.nodes (root_of i.grove.table n)) (order_of i.grove.table) c.locate-at.result.number o.1.forest.trees c.locate-at.ensures.held)
+    let o = open_whole _ _ _ _ i k k c.args.self.now.sound c.in_default.ensures in
+    subst (Standing i.grove.pool.nodes) (sym c.root-root.ensures) (all_among (λ n. Standing i.grove.pool.nodes (root_of i.grove.table n)) (order_of i.grove.table) c.locate-at.result.number i.grove.forest.trees c.locate-at.ensures.held)
 
 pub returns : goal.returns
 unfolding answer_with
@@ -68,21 +64,21 @@ returns g c =
     let room = g.D.Dictionary.room d in
     let tally = g.D.Dictionary.frames d in
     let n = g.D.Dictionary.frames e in
-    let o = open_whole w f room tally i k k c.requires c.in_default.ensures in
+    let o = open_whole w f room tally i k k c.args.self.now.sound c.in_default.ensures in
     let m = holder (rep_of i.grove.table) (order_of i.grove.table) k in
     let root : c.root-root.result ≡ root_of i.grove.table m = c.root-root.ensures ∙ ap (root_of i.grove.table) c.locate-at.ensures.number in
     let entry = c.find-found.ensures.entry ∙ ap (λ r. foremost (at k (entries_at i.grove.pool.nodes r))) root in
     let seen_is = c.find-found.ensures.visits ∙ ap (λ r. seen k (tree_at i.grove.pool.nodes r)) root in
     let fr = c.locate-at.ensures.frames in
-    let q : c.reply.result ≡ reply_of (foremost (at k (items_of i.grove.table i.grove.pool m))) Absent (searching w (reps_of i.grove.table) k) (seen k (tree_of i.grove.table i.grove.pool m)) =
-    c.reply.ensures
+    let q : c.new.result ≡ reply_of (foremost (at k (items_of i.grove.table i.grove.pool m))) Absent (searching w (reps_of i.grove.table) k) (seen k (tree_of i.grove.table i.grove.pool m)) =
+    c.new.ensures
+    ∙ (ap (λ x. answer_of x c.locate-at.result.frames c.find-found.result.visits) c.ok_or.ensures.value
     ∙ (ap (λ x. reply_of x Absent c.locate-at.result.frames c.find-found.result.visits) entry
     ∙ (ap (λ x. reply_of (foremost (at k (items_of i.grove.table i.grove.pool m))) Absent x c.find-found.result.visits) fr
-    ∙ ap (λ x. reply_of (foremost (at k (items_of i.grove.table i.grove.pool m))) Absent (searching w (reps_of i.grove.table) k) x) seen_is)) in
+    ∙ ap (λ x. reply_of (foremost (at k (items_of i.grove.table i.grove.pool m))) Absent (searching w (reps_of i.grove.table) k) x) seen_is))) in
     let t = find_step w f room tally i g.met.K.Key.wide.0 o.1 k [] n (one_fits i.shut w k c.in_default.ensures) (g.met.D.Dictionary.counts e) (c.locate-at.ensures.tally ∙ ap (raised tally) fr) in
     record {
-      sound = sound_kept w f (g.D.Dictionary.pairs e) room (g.D.Dictionary.room e) tally n i c.locate-at.ensures.pairs c.locate-at.ensures.room c.requires;
-      does = open_does w f (g.D.Dictionary.pairs e) tally n i (Find k) [] _ (answer_with c.reply.result) o.0 c.locate-at.ensures.pairs (ap answer_with q) t;
+      does = open_does w f (g.D.Dictionary.pairs e) tally n i (Find k) [] _ (answer_with c.new.result) o.0 c.locate-at.ensures.pairs (ap answer_with q) t;
       inside = refl;
       room = c.locate-at.ensures.room;
     }

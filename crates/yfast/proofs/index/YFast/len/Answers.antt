@@ -9,4 +9,4 @@ returns-else-self g c =
     let f = g.D.Dictionary.pairs d in
     let room = g.D.Dictionary.room d in
     let tally = g.D.Dictionary.frames d in
-    counted_all w f room tally i g.met.K.Key.wide.1 c.if-self.false (whole_of w f room tally i c.if-self.false c.requires)
+    counted_all w f room tally i g.met.K.Key.wide.1 c.if-self.false (whole_of w f room tally i c.if-self.false c.args.self.now.sound)

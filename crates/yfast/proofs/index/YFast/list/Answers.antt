@@ -11,9 +11,9 @@ write_span-requires g c =
     let f = g.D.Dictionary.pairs d in
     let room = g.D.Dictionary.room d in
     let tally = g.D.Dictionary.frames d in
-    let wh = whole_of w f room tally i c.if-self.false c.requires.sound in
+    let wh = whole_of w f room tally i c.if-self.false c.args.self.now.sound in
     let same = ap length (all_spanned w f room tally i g.met.K.Key.wide.1 c.if-self.false wh) in
-    record { forest = wh.forest; held = zero_held i; room = omega (arith, same, c.requires.room) }
+    record { held = zero_held i; room = omega (arith, same, c.requires) }
 
 pub returns : goal.returns
 returns g c =
@@ -23,5 +23,5 @@ returns g c =
     let f = g.D.Dictionary.pairs d in
     let room = g.D.Dictionary.room d in
     let tally = g.D.Dictionary.frames d in
-    let wh = whole_of w f room tally i c.if-self.false c.requires.sound in
+    let wh = whole_of w f room tally i c.if-self.false c.args.self.now.sound in
     c.write_span.ensures ∙ ap (λ xs. over xs c.args.places.now) (all_spanned w f room tally i g.met.K.Key.wide.1 c.if-self.false wh)

@@ -14,18 +14,18 @@ use Rattle.ordered.specs.declared.calls.Call.TheVariants.{Next}
 use Rattle.ordered.specs.declared.refusal.Refusal.TheVariants.{Nothing}
 use Rattle.runs.specs.States.{Answered}
 use Rattle.inside.specs.Whole.{state_of, Does}
-use Rattle.inside.specs.Answers.{reply_of}
+use Rattle.ordered.specs.Answers.{answer_of, reply_of}
 use Rattle.inside.proofs.Parts.{held_in}
 use Rattle.inside.proofs.Quiet.{one_key, next_step}
-use Rattle.inside.proofs.Finds.{barred_does, open_whole, one_fits, open_does, sound_kept}
+use Rattle.inside.proofs.Finds.{barred_does, open_whole, one_fits, open_does}
 use Rattle.yfast.proofs.index.YFast.next.Goals as goal
 
 answer_with : Answer → Answered
 answer_with r = record { answer = r; places = [] }
 
-pub returns-in-Some : goal.returns-in-Some
+pub returns-in-Err : goal.returns-in-Err
 unfolding answer_with
-returns-in-Some g c =
+returns-in-Err g c =
     let k = c.args.key in
     let i = c.args.self.now.inside in
     let d = c.args.self.now.dictionary in
@@ -33,9 +33,8 @@ returns-in-Some g c =
     let f = g.D.Dictionary.pairs d in
     let room = g.D.Dictionary.room d in
     let tally = g.D.Dictionary.frames d in
-    let does = barred_does i.shut w f room tally i g.met.K.Key.wide.0 (g.met.D.Dictionary.counts d) refl c.requires (Next k) [] k k c.in-Some.refusal (one_key w k) c.in-Some.ensures in
+    let does = barred_does i.shut w f room tally i g.met.K.Key.wide.0 (g.met.D.Dictionary.counts d) refl c.args.self.now.sound (Next k) [] k k c.in-Err.refusal (one_key w k) c.in-Err.ensures in
     record {
-      sound = c.requires;
       does = subst (λ r. Does i.shut w i.limit (state_of f tally i) (Next k) [] (answer_with r) (state_of f tally i)) (sym c.refused.ensures) does;
       inside = refl;
       room = refl;
@@ -45,8 +44,8 @@ pub next_from-found-requires : goal.next_from-found-requires
 next_from-found-requires g c =
     let i = c.args.self.now.inside in
     let k = c.args.key in
-    let o = open_whole _ _ _ _ i k k c.requires c.in_default.ensures in
-    record { forest = o.1.forest; held = c.locate-at.ensures.held }
+    let o = open_whole _ _ _ _ i k k c.args.self.now.sound c.in_default.ensures in
+    c.locate-at.ensures.held
 
 pub returns : goal.returns
 unfolding answer_with
@@ -60,7 +59,7 @@ returns g c =
     let room = g.D.Dictionary.room d in
     let tally = g.D.Dictionary.frames d in
     let n = g.D.Dictionary.frames e in
-    let o = open_whole w f room tally i k k c.requires c.in_default.ensures in
+    let o = open_whole w f room tally i k k c.args.self.now.sound c.in_default.ensures in
     let m = c.locate-at.result.number in
     let items = items_of i.grove.table i.grove.pool in
     let tree = tree_of i.grove.table i.grove.pool in
@@ -68,15 +67,15 @@ returns g c =
     let found = c.next_from-found.ensures cut.pre cut.post cut.is in
     let fr = c.locate-at.ensures.frames in
     let xs = from k (items m) ++ ahead [] items cut.post in
-    let q : c.reply.result ≡ reply_of (foremost xs) Nothing (searching w (reps_of i.grove.table) k) (seen k (tree m) + cond (filled (from k (items m))) 0 (low_way (ahead leaf tree cut.post))) =
-    c.reply.ensures
+    let q : c.new.result ≡ reply_of (foremost xs) Nothing (searching w (reps_of i.grove.table) k) (seen k (tree m) + cond (filled (from k (items m))) 0 (low_way (ahead leaf tree cut.post))) =
+    c.new.ensures
+    ∙ (ap (λ x. answer_of x c.locate-at.result.frames c.next_from-found.result.visits) c.ok_or.ensures.value
     ∙ (ap (λ x. reply_of x Nothing c.locate-at.result.frames c.next_from-found.result.visits) found.entry
     ∙ (ap (λ x. reply_of (foremost xs) Nothing x c.next_from-found.result.visits) fr
-    ∙ ap (λ x. reply_of (foremost xs) Nothing (searching w (reps_of i.grove.table) k) x) found.visits)) in
+    ∙ ap (λ x. reply_of (foremost xs) Nothing (searching w (reps_of i.grove.table) k) x) found.visits))) in
     let t = next_step w f room tally i g.met.K.Key.wide.0 o.1 k [] n m cut (one_fits i.shut w k c.in_default.ensures) (g.met.D.Dictionary.counts e) (c.locate-at.ensures.tally ∙ ap (raised tally) fr) in
     record {
-      sound = sound_kept w f (g.D.Dictionary.pairs e) room (g.D.Dictionary.room e) tally n i c.locate-at.ensures.pairs c.locate-at.ensures.room c.requires;
-      does = open_does w f (g.D.Dictionary.pairs e) tally n i (Next k) [] _ (answer_with c.reply.result) o.0 c.locate-at.ensures.pairs (ap answer_with q) t;
+      does = open_does w f (g.D.Dictionary.pairs e) tally n i (Next k) [] _ (answer_with c.new.result) o.0 c.locate-at.ensures.pairs (ap answer_with q) t;
       inside = refl;
       room = c.locate-at.ensures.room;
     }

@@ -8,19 +8,19 @@ use Rattle.ordered.specs.declared.calls.Call.TheVariants.{Range}
 use Rattle.ordered.specs.declared.refusal.Refusal.TheVariants.{Room}
 use Rattle.runs.specs.States.{Answered}
 use Rattle.inside.specs.Whole.{state_of, Does}
-use Rattle.inside.specs.Answers.{no_of}
+use Rattle.ordered.specs.Answers.{no_of}
 use Rattle.inside.specs.Spans.{onward}
 use Rattle.inside.proofs.Parts.{held_in}
-use Rattle.inside.proofs.Finds.{barred_does, open_whole, open_does, sound_kept}
+use Rattle.inside.proofs.Finds.{barred_does, open_whole, open_does}
 use Rattle.inside.proofs.Ranges.{wrote, span_bound, room_told, written_told, range_step, both_fit}
 use Rattle.yfast.proofs.index.YFast.range.Goals as goal
 
 answer_with : List Entry → Answer → Answered
 answer_with ps r = record { answer = r; places = ps }
 
-pub returns-in-Some : goal.returns-in-Some
+pub returns-in-Err : goal.returns-in-Err
 unfolding answer_with
-returns-in-Some g c =
+returns-in-Err g c =
     let a = c.args.first in
     let b = c.args.second in
     let ps = c.args.places.now in
@@ -30,9 +30,8 @@ returns-in-Some g c =
     let f = g.D.Dictionary.pairs d in
     let room = g.D.Dictionary.room d in
     let tally = g.D.Dictionary.frames d in
-    let does = barred_does i.shut w f room tally i g.met.K.Key.wide.0 (g.met.D.Dictionary.counts d) refl c.requires (Range a b) ps a b c.in-Some.refusal refl c.in-Some.ensures in
+    let does = barred_does i.shut w f room tally i g.met.K.Key.wide.0 (g.met.D.Dictionary.counts d) refl c.args.self.now.sound (Range a b) ps a b c.in-Err.refusal refl c.in-Err.ensures in
     record {
-      sound = c.requires;
       does = subst (λ r. Does i.shut w i.limit (state_of f tally i) (Range a b) ps (answer_with ps r) (state_of f tally i)) (sym c.refused.ensures) does;
       inside = refl;
       room = refl;
@@ -52,7 +51,7 @@ returns-then-number-places g c =
     let room = g.D.Dictionary.room d in
     let tally = g.D.Dictionary.frames d in
     let n = g.D.Dictionary.frames e in
-    let o = open_whole w f room tally i a b c.requires c.in_default.ensures in
+    let o = open_whole w f room tally i a b c.args.self.now.sound c.in_default.ensures in
     let m = c.locate-at.result.number in
     let fr = c.locate-at.result.frames in
     let cut = subst (InRow (rep_of i.grove.table) (order_of i.grove.table) a) (sym c.locate-at.ensures.number) (held_in w f i.grove.table o.1.trie a) in
@@ -61,7 +60,6 @@ returns-then-number-places g c =
     let t = range_step w f room tally i g.met.K.Key.wide.0 o.1 a b ps n m cut (answer_with ps (no_of Room fr 0)) (both_fit i.shut w a b c.in_default.ensures)
     (room_told ys ps fr many) c.locate-at.ensures.frames refl refl (g.met.D.Dictionary.counts e) c.locate-at.ensures.tally in
     record {
-      sound = sound_kept w f (g.D.Dictionary.pairs e) room (g.D.Dictionary.room e) tally n i c.locate-at.ensures.pairs c.locate-at.ensures.room c.requires;
       does = open_does w f (g.D.Dictionary.pairs e) tally n i (Range a b) ps _ (answer_with ps c.refused-then-number-places.result) o.0 c.locate-at.ensures.pairs (ap (answer_with ps) c.refused-then-number-places.ensures) t;
       inside = refl;
       room = c.locate-at.ensures.room;
@@ -71,7 +69,7 @@ pub overflow_cast-result : goal.overflow_cast-result
 overflow_cast-result g c =
     let i = c.args.self.now.inside in
     let d = c.args.self.now.dictionary in
-    let o = open_whole g.K.Key.width (g.D.Dictionary.pairs d) (g.D.Dictionary.room d) (g.D.Dictionary.frames d) i c.args.first c.args.second c.requires c.in_default.ensures in
+    let o = open_whole g.K.Key.width (g.D.Dictionary.pairs d) (g.D.Dictionary.room d) (g.D.Dictionary.frames d) i c.args.first c.args.second c.args.self.now.sound c.in_default.ensures in
     let few = span_bound g.K.Key.width (g.D.Dictionary.pairs d) (g.D.Dictionary.room d) (g.D.Dictionary.frames d) i o.1 c.args.first c.args.second c.locate-at.result.number in
     omega (arith, few, c.count_span-number.ensures)
 
@@ -90,7 +88,7 @@ returns g c =
     let room = g.D.Dictionary.room d in
     let tally = g.D.Dictionary.frames d in
     let n = g.D.Dictionary.frames e in
-    let o = open_whole w f room tally i a b c.requires c.in_default.ensures in
+    let o = open_whole w f room tally i a b c.args.self.now.sound c.in_default.ensures in
     let m = c.locate-at.result.number in
     let fr = c.locate-at.result.frames in
     let cut = subst (InRow (rep_of i.grove.table) (order_of i.grove.table) a) (sym c.locate-at.ensures.number) (held_in w f i.grove.table o.1.trie a) in
@@ -100,7 +98,6 @@ returns g c =
     let t = range_step w f room tally i g.met.K.Key.wide.0 o.1 a b ps n m cut x (both_fit i.shut w a b c.in_default.ensures)
     (written_told ys ps qs c.count_span-number.result fr c.count_span-number.ensures c.write_span.ensures fits) c.locate-at.ensures.frames refl refl (g.met.D.Dictionary.counts e) c.locate-at.ensures.tally in
     record {
-      sound = sound_kept w f (g.D.Dictionary.pairs e) room (g.D.Dictionary.room e) tally n i c.locate-at.ensures.pairs c.locate-at.ensures.room c.requires;
       does = open_does w f (g.D.Dictionary.pairs e) tally n i (Range a b) ps x x o.0 c.locate-at.ensures.pairs refl t;
       inside = refl;
       room = c.locate-at.ensures.room;

@@ -18,18 +18,18 @@ use Rattle.ordered.specs.declared.calls.Call.TheVariants.{Remove}
 use Rattle.ordered.specs.declared.refusal.Refusal.TheVariants.{Absent}
 use Rattle.runs.specs.States.{Answered, Step}
 use Rattle.inside.specs.Whole.{Whole, Unless, state_of, Does}
-use Rattle.inside.specs.Answers.{no_of}
+use Rattle.ordered.specs.Answers.{no_of}
 use Rattle.inside.proofs.Quiet.{one_key}
-use Rattle.inside.proofs.Finds.{barred_does, open_whole, one_fits, open_does, sound_kept}
+use Rattle.inside.proofs.Finds.{barred_does, open_whole, one_fits, open_does}
 use Rattle.inside.proofs.Removes.{absent_step, remove_few, remove_whole, remove_step, found_first, not_found}
 use Rattle.yfast.proofs.index.YFast.remove.Goals as goal
 
 answer_with : Answer → Answered
 answer_with r = record { answer = r; places = [] }
 
-pub returns-in-Some : goal.returns-in-Some
+pub returns-in-Err : goal.returns-in-Err
 unfolding answer_with
-returns-in-Some g c =
+returns-in-Err g c =
     let k = c.args.key in
     let i = c.args.self.now.inside in
     let d = c.args.self.now.dictionary in
@@ -37,9 +37,8 @@ returns-in-Some g c =
     let f = g.D.Dictionary.pairs d in
     let room = g.D.Dictionary.room d in
     let tally = g.D.Dictionary.frames d in
-    let does = barred_does i.shut w f room tally i g.met.K.Key.wide.0 (g.met.D.Dictionary.counts d) refl c.requires (Remove k) [] k k c.in-Some.refusal (one_key w k) c.in-Some.ensures in
+    let does = barred_does i.shut w f room tally i g.met.K.Key.wide.0 (g.met.D.Dictionary.counts d) refl c.args.self.now.sound (Remove k) [] k k c.in-Err.refusal (one_key w k) c.in-Err.ensures in
     record {
-      sound = c.requires;
       does = subst (λ r. Does i.shut w i.limit (state_of f tally i) (Remove k) [] (answer_with r) (state_of f tally i)) (sym c.refused.ensures) does;
       limit = refl;
       shut = refl;
@@ -48,17 +47,14 @@ returns-in-Some g c =
 
 pub root-root-requires : goal.root-root-requires
 root-root-requires g c =
-    let i = c.args.self.now.inside in
-    let k = c.args.key in
-    let o = open_whole _ _ _ _ i k k c.requires c.in_default.ensures in
-    small i.grove.table c.locate-at.result.number c.locate-at.ensures.held
+    small c.args.self.now.inside.grove.table c.locate-at.result.number c.locate-at.ensures.held
 
 pub find-found-requires : goal.find-found-requires
 find-found-requires g c =
     let i = c.args.self.now.inside in
     let k = c.args.key in
-    let o = open_whole _ _ _ _ i k k c.requires c.in_default.ensures in
-    subst (Standing i.grove.pool.nodes) (sym c.root-root.ensures) (all_among (λ n. Standing i.grove.pool.nodes (root_of i.grove.table n)) (order_of i.grove.table) c.locate-at.result.number o.1.forest.trees c.locate-at.ensures.held)
+    let o = open_whole _ _ _ _ i k k c.args.self.now.sound c.in_default.ensures in
+    subst (Standing i.grove.pool.nodes) (sym c.root-root.ensures) (all_among (λ n. Standing i.grove.pool.nodes (root_of i.grove.table n)) (order_of i.grove.table) c.locate-at.result.number i.grove.forest.trees c.locate-at.ensures.held)
 
 pub leave-change-requires : goal.leave-change-requires
 leave-change-requires g c =
@@ -70,7 +66,7 @@ leave-change-requires g c =
     let f = g.D.Dictionary.pairs d in
     let room = g.D.Dictionary.room d in
     let tally = g.D.Dictionary.frames d in
-    let o = open_whole w f room tally i k k c.requires c.in_default.ensures in
+    let o = open_whole w f room tally i k k c.args.self.now.sound c.in_default.ensures in
     let m = holder (rep_of i.grove.table) (order_of i.grove.table) k in
     let root : c.root-root.result ≡ root_of i.grove.table m = c.root-root.ensures ∙ ap (root_of i.grove.table) c.locate-at.ensures.number in
     let xs = at k (items_of i.grove.table i.grove.pool m) in
@@ -80,9 +76,9 @@ leave-change-requires g c =
     let big = g.met.K.Key.wide.0 in
     let fits = one_fits i.shut w k c.in_default.ensures in
     let wh = o.1 in
-    let first = found_first xs c.in-Some-entry.entry (sym found ∙ c.in-Some-entry.is) in
+    let first = found_first xs c.in-Some.entry (sym found ∙ c.in-Some.is) in
     record {
-      whole = record { trie = c.locate-at.ensures.sound; forest = wh.forest; buckets = wh.buckets; notes = wh.notes; counted = wh.counted; small = wh.small; fits = subst (λ x. needed w i.limit ≤ x) (sym c.locate-at.ensures.room) wh.fits };
+      whole = record { trie = c.locate-at.ensures.sound; buckets = wh.buckets; notes = wh.notes; counted = wh.counted; small = wh.small; fits = subst (λ x. needed w i.limit ≤ x) (sym c.locate-at.ensures.room) wh.fits };
       fits = fits;
       place = c.locate-at.ensures.number;
       held = c.locate-at.ensures.held;
@@ -99,7 +95,7 @@ overflow_add-result g c =
     let f = g.D.Dictionary.pairs d in
     let room = g.D.Dictionary.room d in
     let tally = g.D.Dictionary.frames d in
-    let o = open_whole w f room tally i k k c.requires c.in_default.ensures in
+    let o = open_whole w f room tally i k k c.args.self.now.sound c.in_default.ensures in
     let m = holder (rep_of i.grove.table) (order_of i.grove.table) k in
     let root : c.root-root.result ≡ root_of i.grove.table m = c.root-root.ensures ∙ ap (root_of i.grove.table) c.locate-at.ensures.number in
     let xs = at k (items_of i.grove.table i.grove.pool m) in
@@ -109,8 +105,8 @@ overflow_add-result g c =
     let big = g.met.K.Key.wide.0 in
     let fits = one_fits i.shut w k c.in_default.ensures in
     let wide = g.met.K.Key.wide in
-    let first = found_first xs c.in-Some-entry.entry (sym found ∙ c.in-Some-entry.is) in
-    let few = remove_few w f room tally i big o.1 k fits c.in-Some-entry.entry first.0 first.1 in
+    let first = found_first xs c.in-Some.entry (sym found ∙ c.in-Some.is) in
+    let few = remove_few w f room tally i big o.1 k fits c.in-Some.entry first.0 first.1 in
     omega (arith, few, fr, c.leave-change.ensures.left.frames, most_within w wide.0 wide.1, wide.1)
 
 pub returns-in_default-entry : goal.returns-in_default-entry
@@ -124,7 +120,7 @@ returns-in_default-entry g c =
     let f = g.D.Dictionary.pairs d in
     let room = g.D.Dictionary.room d in
     let tally = g.D.Dictionary.frames d in
-    let o = open_whole w f room tally i k k c.requires c.in_default.ensures in
+    let o = open_whole w f room tally i k k c.args.self.now.sound c.in_default.ensures in
     let m = holder (rep_of i.grove.table) (order_of i.grove.table) k in
     let root : c.root-root.result ≡ root_of i.grove.table m = c.root-root.ensures ∙ ap (root_of i.grove.table) c.locate-at.ensures.number in
     let xs = at k (items_of i.grove.table i.grove.pool m) in
@@ -138,12 +134,36 @@ returns-in_default-entry g c =
     let q : c.refused-in_default-entry.result ≡ no_of Absent (searching w (reps_of i.grove.table) k) (seen k (tree_of i.grove.table i.grove.pool m)) =
     c.refused-in_default-entry.ensures ∙ (ap (λ x. no_of Absent x c.find-found.result.visits) fr ∙ ap (λ x. no_of Absent (searching w (reps_of i.grove.table) k) x) seen_is) in
     record {
-      sound = sound_kept w f (g.D.Dictionary.pairs e) room (g.D.Dictionary.room e) tally n i c.locate-at.ensures.pairs c.locate-at.ensures.room c.requires;
       does = open_does w f (g.D.Dictionary.pairs e) tally n i (Remove k) [] _ (answer_with c.refused-in_default-entry.result) o.0 c.locate-at.ensures.pairs (ap answer_with q) t;
       limit = refl;
       shut = refl;
       room = c.locate-at.ensures.room;
     }
+
+pub invariant_of-self-2 : goal.invariant_of-self-2
+invariant_of-self-2 g c =
+    let k = c.args.key in
+    let i = c.args.self.now.inside in
+    let d = c.args.self.now.dictionary in
+    let w = g.K.Key.width in
+    let f = g.D.Dictionary.pairs d in
+    let room = g.D.Dictionary.room d in
+    let tally = g.D.Dictionary.frames d in
+    let o = open_whole w f room tally i k k c.args.self.now.sound c.in_default.ensures in
+    let m = holder (rep_of i.grove.table) (order_of i.grove.table) k in
+    let root : c.root-root.result ≡ root_of i.grove.table m = c.root-root.ensures ∙ ap (root_of i.grove.table) c.locate-at.ensures.number in
+    let xs = at k (items_of i.grove.table i.grove.pool m) in
+    let found : c.find-found.result.entry ≡ foremost xs = c.find-found.ensures.entry ∙ ap (λ r. foremost (at k (entries_at i.grove.pool.nodes r))) root in
+    let fits = one_fits i.shut w k c.in_default.ensures in
+    let old = c.in-Some.entry in
+    let first = found_first xs old (sym found ∙ c.in-Some.is) in
+    let j = c.leave-change.new.inside in
+    let z = c.leave-change.new.d in
+    let p = g.D.Dictionary.pairs z in
+    let n = g.D.Dictionary.frames z in
+    let en = c.leave-change.ensures in
+    let whole = remove_whole w f room tally i g.met.K.Key.wide.0 o.1 k fits old first.0 first.1 j p (g.D.Dictionary.room z) n c.leave-change.result en.trie en.left en.rest.0 en.rest.1 (en.room ∙ c.locate-at.ensures.room) in
+    record { sound = subst (λ b. Unless b (Whole w p (g.D.Dictionary.room z) n j)) (sym (en.rest.2 ∙ o.0)) whole }
 
 pub returns : goal.returns
 returns g c =
@@ -155,7 +175,7 @@ returns g c =
     let f = g.D.Dictionary.pairs d in
     let room = g.D.Dictionary.room d in
     let tally = g.D.Dictionary.frames d in
-    let o = open_whole w f room tally i k k c.requires c.in_default.ensures in
+    let o = open_whole w f room tally i k k c.args.self.now.sound c.in_default.ensures in
     let m = holder (rep_of i.grove.table) (order_of i.grove.table) k in
     let root : c.root-root.result ≡ root_of i.grove.table m = c.root-root.ensures ∙ ap (root_of i.grove.table) c.locate-at.ensures.number in
     let xs = at k (items_of i.grove.table i.grove.pool m) in
@@ -164,8 +184,8 @@ returns g c =
     let fr = c.locate-at.ensures.frames in
     let big = g.met.K.Key.wide.0 in
     let fits = one_fits i.shut w k c.in_default.ensures in
-    let old = c.in-Some-entry.entry in
-    let first = found_first xs old (sym found ∙ c.in-Some-entry.is) in
+    let old = c.in-Some.entry in
+    let first = found_first xs old (sym found ∙ c.in-Some.is) in
     let j = c.leave-change.new.inside in
     let z = c.leave-change.new.d in
     let r = c.leave-change.result in
@@ -173,14 +193,12 @@ returns g c =
     let n = g.D.Dictionary.frames z in
     let en = c.leave-change.ensures in
     let rm = en.room ∙ c.locate-at.ensures.room in
-    let whole = remove_whole w f room tally i big o.1 k fits old first.0 first.1 j p (g.D.Dictionary.room z) n r en.trie en.forest en.left en.rest.0 en.rest.1 rm in
-    let t = remove_step w f room tally i big o.1 k fits old first.0 first.1 j p (g.D.Dictionary.room z) n r en.trie en.forest en.left en.rest.0 en.rest.1 rm (g.met.D.Dictionary.counts z) (en.tally ∙ ap (λ x. raised x r.frames) (c.locate-at.ensures.tally ∙ ap (raised tally) fr)) in
+    let t = remove_step w f room tally i big o.1 k fits old first.0 first.1 j p (g.D.Dictionary.room z) n r en.trie en.left en.rest.0 en.rest.1 rm (g.met.D.Dictionary.counts z) (en.tally ∙ ap (λ x. raised x r.frames) (c.locate-at.ensures.tally ∙ ap (raised tally) fr)) in
     let accepted : ℕ → ℕ → Answered = λ x y. record { answer = record { outcome = Ok old; number = 0; frames = x + r.frames; visits = y; rebuilding = r.rebuilding }; places = [] } in
     let made : Step w i.limit (state_of f tally i) (Remove k) [] (accepted c.locate-at.result.frames c.find-found.result.visits) (state_of p n j) =
     subst (λ x. Step w i.limit (state_of f tally i) (Remove k) [] (accepted x c.find-found.result.visits) (state_of p n j)) (sym fr)
     (subst (λ y. Step w i.limit (state_of f tally i) (Remove k) [] (accepted (searching w (reps_of i.grove.table) k) y) (state_of p n j)) (sym seen_is) t) in
     record {
-      sound = subst (λ b. Unless b (Whole w p (g.D.Dictionary.room z) n j)) (sym (en.rest.2 ∙ o.0)) whole;
       does = subst (λ b. Does b w i.limit (state_of f tally i) (Remove k) [] (accepted c.locate-at.result.frames c.find-found.result.visits) (state_of p n j)) (sym o.0) made;
       limit = en.rest.0;
       shut = en.rest.2;

@@ -9,8 +9,5 @@ returns g c =
     let e = c.range.ensures in
     let x = c.args.self.now in
     let d = g.D.Dictionary in
-    record {
-      sound = e.sound;
-      step = stepped_as x.inside.shut _ g.K.Key.width g.met.K.Key.wide.0 g.met.K.Key.wide.1 (d.pairs x.dictionary) (d.room x.dictionary) (d.frames x.dictionary) x.inside
-          (g.met.D.Dictionary.counts x.dictionary) c.requires (Range c.args.first c.args.second) c.args.places.now c.range.result _ _ _ _ (ap (λ (i : Inside). i.shut) e.inside) (ap (λ (i : Inside). i.limit) e.inside) e.does;
-    }
+    stepped_as x.inside.shut _ g.K.Key.width g.met.K.Key.wide.0 g.met.K.Key.wide.1 (d.pairs x.dictionary) (d.room x.dictionary) (d.frames x.dictionary) x.inside
+    (g.met.D.Dictionary.counts x.dictionary) x.sound (Range c.args.first c.args.second) c.args.places.now c.range.result _ _ _ _ (ap (λ (i : Inside). i.shut) e.inside) (ap (λ (i : Inside). i.limit) e.inside) e.does
