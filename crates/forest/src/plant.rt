@@ -12,9 +12,7 @@ impl Grove {
         requires { Fresh table }
         ensures { result.table ≡ table }
     {
-        Grove {
-            table,
-            pool: Pool::new(),
-        }
+        let pool = Pool::new();
+        Grove { table, pool }
     }
 }

@@ -1,7 +1,7 @@
 -- A new index: a dictionary that fits is empty, and one bucket stands without an entry.
 use Rattle.std.proofs.Common.{◌≡◌, ℕ, ◌+◌, ◌*◌, ◌^◌, ◌<◌, ◌≤◌, Bool, true, false, cond, ◌||◌, eqb, ltb, List, [], ◌∷◌, map, length, is_some, is_err, Some, None, Ok, Err, Option, Result, sym, refl, ap, ◌∙◌, subst, mul-le-mul_left, arith}
 use mathlib.Core.Path.{fun_ext}
-use Rattle.std.specs.List.{flat_map, AllByRecursion}
+use Rattle.std.specs.List.{AllByRecursion}
 use Rattle.std.specs.Result.{result_err}
 use Rattle.std.proofs.lemmas.Bool.{ltb-false, or_parts}
 use Rattle.dictionary.specs.Pairs.{Pairs, no_pairs, among}
@@ -10,12 +10,9 @@ use Rattle.key.specs.Widths.{needed}
 use Rattle.ordered.specs.declared.refusal.Refusal.{Refusal}
 use Rattle.ordered.specs.Fitness.{fitness}
 use Rattle.buckets.specs.declared.Table.{Table}
-use Rattle.buckets.specs.Tables.{rep_of, size_of, root_of, order_of, Fresh}
-use Rattle.trees.specs.Trees.{Tree, leaf, entries, places}
-use Rattle.trees.specs.Pools.{Standing}
-use Rattle.trees.proofs.Pools.{end_is}
+use Rattle.buckets.specs.Tables.{rep_of, Fresh}
+use Rattle.trees.specs.Trees.{Tree, leaf, entries}
 use Rattle.avl.specs.declared.pool.Pool.{Pool}
-use Rattle.avl.specs.Spares.{free, Shared}
 use Rattle.rules.specs.Buckets.{new, flat, total}
 use Rattle.rules.specs.Buckets.{Sound as BucketsSound}
 use Rattle.rules.proofs.Running.{new_sound}
@@ -26,7 +23,6 @@ use Rattle.forest.specs.Forests.{tree_of, items_of, row_of, grove_of}
 use Rattle.forest.proofs.Fresh.{tree_first}
 use Rattle.inside.specs.Whole.{Whole}
 use Rattle.inside.specs.Making.{Bare}
-use Rattle.trees.proofs.Pools.{standing_none}
 
 -- ---- what a check answers
 pub erred : {T E : Type 0} (r : Result T E) → is_err r ≡ true → true ≡ is_some (result_err r)

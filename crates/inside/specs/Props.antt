@@ -4,12 +4,12 @@ use Rattle.std.specs.Coded.{Unit-prop}
 use Rattle.std.proofs.Props.{props}
 use Rattle.dictionary.specs.Pairs.{Pairs}
 use Rattle.links.specs.Props.{Rising-prop}
-use Rattle.rules.specs.Props.{Spread-prop}
+use Rattle.rules.specs.Props.{Sound-prop as BucketsSound-prop}
 use Rattle.inside.specs.declared.Inside.{Inside}
 use Rattle.inside.specs.Whole.{Whole, Unless, Sound}
 
 pub Whole-prop : (w : ℕ) (f : Pairs) (room tally : ℕ) (i : Inside) → IsProp (Whole w f room tally i)
-Whole-prop w f room tally i = Prim.hlevel (Rising-prop, Spread-prop, props)
+Whole-prop w f room tally i = Prim.hlevel (Rising-prop, BucketsSound-prop, props)
 
 unless_prop : {X : Type 0} (b : Bool) → IsProp X → IsProp (Unless b X)
 unless_prop true p = Unit-prop

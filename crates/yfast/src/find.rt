@@ -4,6 +4,7 @@ ghost use Rattle.ordered.specs.declared.calls.Call.TheVariants.{Find};
 ghost use Rattle.inside.specs.Whole.{Does, state_of};
 
 use crate::index::YFast;
+use crate::look::Look;
 use dictionary::Dictionary;
 use key::Key;
 use ordered::{Answer, Refusal};
@@ -17,11 +18,7 @@ impl<K: Key, D: Dictionary> YFast<K, D> {
         if let Err(refusal) = self.admits(key, key) {
             return Answer::refused(refusal, 0, 0);
         }
-        let look = self.look(key);
-        Answer::new(
-            look.found.entry.ok_or(Refusal::Absent),
-            look.frames,
-            look.found.visits,
-        )
+        let Look { frames, found, .. } = self.look(key);
+        Answer::new(found.entry.ok_or(Refusal::Absent), frames, found.visits)
     }
 }

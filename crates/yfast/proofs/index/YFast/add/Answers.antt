@@ -1,4 +1,4 @@
-use Rattle.std.proofs.Common.{◌≡◌, ℕ, ◌+◌, ◌<◌, ◌≤◌, true, false, [], is_some, Ok, sym, refl, ap, ◌∙◌, subst, arith}
+use Rattle.std.proofs.Common.{◌≡◌, ℕ, ◌+◌, ◌<◌, true, [], is_some, Ok, sym, refl, ap, ◌∙◌, subst, arith}
 use Rattle.dictionary.specs.Pairs.{among, raised}
 use Rattle.key.proofs.Logs.{most_within}
 use Rattle.entry.specs.declared.Entry.{Entry}

@@ -17,7 +17,7 @@ use Rattle.inside.specs.Whole.{state_of, Does}
 use Rattle.ordered.specs.Answers.{answer_of, reply_of}
 use Rattle.inside.proofs.Parts.{held_in}
 use Rattle.inside.proofs.Quiet.{one_key, last_step}
-use Rattle.inside.proofs.Finds.{barred_does, open_whole, one_fits, open_does, sound_kept}
+use Rattle.inside.proofs.Finds.{barred_does, open_whole, one_fits, open_does}
 use Rattle.yfast.proofs.index.YFast.last.Goals as goal
 
 answer_with : Answer → Answered

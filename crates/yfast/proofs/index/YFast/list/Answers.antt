@@ -13,7 +13,7 @@ write_span-requires g c =
     let tally = g.D.Dictionary.frames d in
     let wh = whole_of w f room tally i c.if-self.false c.args.self.now.sound in
     let same = ap length (all_spanned w f room tally i g.met.K.Key.wide.1 c.if-self.false wh) in
-    record { forest = wh.forest; held = zero_held i; room = omega (arith, same, c.requires) }
+    record { held = zero_held i; room = omega (arith, same, c.requires) }
 
 pub returns : goal.returns
 returns g c =

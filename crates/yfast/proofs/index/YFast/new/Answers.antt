@@ -1,12 +1,14 @@
-use Rattle.std.proofs.Common.{true, false, length, is_some, sym, refl, ap, ◌∙◌, arith}
+use Rattle.std.proofs.Common.{true, false, length, is_some, sym, refl, ap, ◌∙◌, subst, arith}
 use Rattle.std.proofs.lemmas.Bool.{true≢false, false≢true}
+use Rattle.buckets.specs.Tables.{Fresh}
+use Rattle.trie.specs.Sound.{Sound as TrieSound}
 use Rattle.inside.proofs.Fresh.{erred, not_erred, fitting, pairless, fresh_bare, fresh_whole}
 use Rattle.yfast.proofs.index.YFast.new.Goals as goal
 
 pub returns-then-is_err : goal.returns-then-is_err
 returns-then-is_err g c = record {
   shut = erred c.fitness.result (sym c.is_err.ensures.value ∙ c.if-is_err.true) ∙ ap is_some c.fitness.ensures;
-  bare = fresh_bare c.new.result c.new-then-is_err.result c.new.ensures 0 true;
+  bare = fresh_bare c.new-then-is_err.result (subst Fresh (sym c.new-then-is_err.ensures) c.new.ensures) 0 true;
   kept = λ _. record { limit = refl; dictionary = refl };
   made = λ e. absurd (true≢false e);
 }
@@ -29,7 +31,7 @@ returns g c =
     let wide = g.met.K.Key.wide in
     record {
       shut = ap is_some (not_erred c.fitness.result (sym c.is_err.ensures.value ∙ c.if-is_err.false) ∙ c.fitness.ensures);
-      bare = fresh_bare t p e.fresh c.args.limit false;
+      bare = fresh_bare c.new-2.result (subst Fresh (sym c.new-2.ensures) e.fresh) c.args.limit false;
       kept = λ h. absurd (false≢true h);
       made = λ _. record { limit = refl; room = e.room; tally = omega (arith, e.tally, f.unused) };
     }
@@ -43,4 +45,4 @@ invariant_of-result-2 g c =
     let e = c.make.ensures in
     let given = c.args.dictionary in
     let f = fitting w c.args.limit (g.D.Dictionary.room given) (length (g.D.Dictionary.nodes given)) (g.D.Dictionary.frames given) (not_erred c.fitness.result (sym c.is_err.ensures.value ∙ c.if-is_err.false) ∙ c.fitness.ensures) in
-    record { sound = fresh_whole t p e.fresh c.new-2.ensures w c.args.limit (g.D.Dictionary.room d) (g.D.Dictionary.frames d) (g.D.Dictionary.pairs d) e.sound f.small (omega (arith, f.enough, e.room)) }
+    record { sound = fresh_whole c.new-2.result (subst Fresh (sym c.new-2.ensures) e.fresh) w c.args.limit (g.D.Dictionary.room d) (g.D.Dictionary.frames d) (g.D.Dictionary.pairs d) (subst (TrieSound w (g.D.Dictionary.pairs d)) (sym c.new-2.ensures) e.sound) f.small (omega (arith, f.enough, e.room)) }

@@ -11,7 +11,7 @@ use Rattle.inside.specs.Whole.{state_of, Does}
 use Rattle.ordered.specs.Answers.{no_of}
 use Rattle.inside.specs.Spans.{onward}
 use Rattle.inside.proofs.Parts.{held_in}
-use Rattle.inside.proofs.Finds.{barred_does, open_whole, open_does, sound_kept}
+use Rattle.inside.proofs.Finds.{barred_does, open_whole, open_does}
 use Rattle.inside.proofs.Ranges.{wrote, span_bound, room_told, written_told, range_step, both_fit}
 use Rattle.yfast.proofs.index.YFast.range.Goals as goal
 

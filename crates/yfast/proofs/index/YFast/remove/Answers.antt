@@ -6,7 +6,6 @@ use Rattle.levels.specs.Counts.{searching}
 use Rattle.links.specs.Orders.{holder}
 use Rattle.trie.specs.Sound.{reps_of}
 use Rattle.forest.specs.Forests.{items_of, tree_of, row_of}
-use Rattle.trees.specs.Answers.{foremost}
 use Rattle.trees.specs.Trees.{seen}
 use Rattle.buckets.specs.Tables.{rep_of, order_of}
 use Rattle.ordered.specs.Answers.{no_of}
