@@ -4,6 +4,9 @@
 // `Sound` ties the two: for every node the dictionary has the pair that the table's order asks for,
 // and no other. Making gives it, and every call here keeps it. Sizes and roots of the buckets are
 // the caller's.
+//
+// The two stay two values: an index keeps the table beside its trees, and the dictionary of a shut index
+// was never set up, so no type could carry `Sound` for all of them.
 #![tactic(auto)]
 
 ghost use Rattle.std.specs.Prelude.{◌≡◌, ◌+◌, ◌*◌, ◌^◌, ◌<◌, ◌≤◌, true, false, length};

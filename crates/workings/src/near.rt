@@ -1,7 +1,8 @@
 // The entries next to a key, above it and below.
 //
 // Such an entry is in the key's own bucket or, where that has none, at the near end of the bucket
-// beside it: only the first bucket may be empty.
+// beside it: only the first bucket may be empty. One function over a side, for both, would choose the
+// neighbour, the end of its tree and the test for the last bucket.
 ghost use Rattle.std.specs.Prelude.{◌≡◌, ℕ, true, List, ◌∷◌, ◌++◌};
 ghost use Rattle.dictionary.specs.Pairs.{among};
 ghost use Rattle.buckets.specs.Tables.{order_of};

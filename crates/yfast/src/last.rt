@@ -1,4 +1,4 @@
-// The highest entry at or below a key.
+// The highest entry at or below a key. As next, but for the three words that say the side.
 ghost use Rattle.std.specs.Prelude.{◌≡◌, []};
 ghost use Rattle.ordered.specs.declared.calls.Call.TheVariants.{Last};
 ghost use Rattle.inside.specs.Whole.{Does, state_of};
