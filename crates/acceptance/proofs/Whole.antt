@@ -91,9 +91,6 @@ pub has_none : (o : Option Links) (l : Links) → is_some o ≡ false → has o 
 has_none None l e = refl
 has_none (Some p) l e = absurd (let z : ◌≡◌ {A = ℕ} 0 1 = cc in omega arith)
 
-has_same : (l : Links) → has (Some l) l ≡ true
-has_same l = search rules
-
 pub has_where : (f : Pairs) (round m s i : ℕ) → m ≤ 768 → Stood f m → ((j : ℕ) → j < s → f (node_of j) ≡ Some (links_of j round)) → (s ≡ m) ⊎ (i ≤ s) → i ≤ 768 →
     (j : ℕ) → j < i → has (f (node_of j)) (links_of j round) ≡ ltb j s
 has_where f round m s i ml st newer way il j jl = search rules

@@ -9,7 +9,6 @@ use Rattle.slots.proofs.Rows.{node_same, node_other, taken_within, out_apart, ou
 use Rattle.slots.proofs.Counts.{held_less}
 use Rattle.slots.proofs.Moves.{moved, move_apart, move_held, move_pairs}
 use Rattle.cuckoo.specs.Layout.{Placed, Packed}
-use Rattle.cuckoo.proofs.Standing.{placed_set}
 
 -- a row zs without the pair in the slot at of the row xs
 pub record Gone (xs : List Slot) (at : ℕ) (zs : List Slot) : Type 0 where

@@ -1,16 +1,12 @@
 -- The overflow row, which is packed at its front.
-use Rattle.std.proofs.Common.{rules, ◌≡◌, ℕ, ◌+◌, ◌-◌, ◌<◌, ◌≤◌, List, length, drop, take, set, replicate, sym, ap, ◌∙◌, ⊎_elim, arith}
+use Rattle.std.proofs.Common.{rules, ◌≡◌, ℕ, ◌+◌, ◌-◌, ◌<◌, ◌≤◌, List, length, drop, take, set, replicate, ap, ◌∙◌, ⊎_elim, arith}
 use Rattle.std.proofs.lemmas.List.{get_or-drop, get_or-take, length-drop, length-take-le}
-use Rattle.std.proofs.lemmas.Bool.{cases_lt, cases_eq}
+use Rattle.std.proofs.lemmas.Bool.{cases_lt}
 use Rattle.slots.specs.declared.Slot.{Slot}
 use Rattle.slots.specs.Slots.{blank, node_at, held}
-use Rattle.slots.proofs.Rows.{node_same, node_other, taken_within, fresh_node}
+use Rattle.slots.proofs.Rows.{taken_within, fresh_node}
 use Rattle.slots.proofs.Counts.{held_packed, held_drop}
 use Rattle.cuckoo.specs.Layout.{Packed}
-
--- a row with the same nodes in its overflow part
-packed_like : (xs ys : List Slot) (n : ℕ) → ((k : ℕ) → node_at ys (1024 + k) ≡ node_at xs (1024 + k)) → Packed xs n → Packed ys n
-packed_like xs ys n like packed = search rules
 
 module _ (xs : List Slot) (n : ℕ) (packed : Packed xs n) where
   -- as many pairs stand there as slots are said to be taken

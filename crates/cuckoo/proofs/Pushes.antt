@@ -1,11 +1,11 @@
 -- A put that carries a pair from home to home.
 use Rattle.std.proofs.Common.{rules, ◌≡◌, ℕ, ◌+◌, ◌<◌, List, length, get_or, set, arith}
 use Rattle.slots.specs.declared.Slot.{Slot}
-use Rattle.slots.specs.Slots.{blank, node_at, held, Apart, Absent}
-use Rattle.slots.proofs.Carried.{Carried, carried_start, swapped}
-use Rattle.cuckoo.specs.Homes.{first_of, home_of}
+use Rattle.slots.specs.Slots.{blank, node_at, held}
+use Rattle.slots.proofs.Carried.{Carried, swapped}
+use Rattle.cuckoo.specs.Homes.{home_of}
 use Rattle.cuckoo.specs.Layout.{Placed, Packed}
-use Rattle.cuckoo.proofs.Standing.{first_below, home_first, placed_set}
+use Rattle.cuckoo.proofs.Standing.{placed_set}
 use Rattle.cuckoo.proofs.Packing.{packed_below, packed_few, packed_spill}
 
 -- the pair c is carried to its home at

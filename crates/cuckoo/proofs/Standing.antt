@@ -1,9 +1,9 @@
 -- Homes of nodes in the two rows, and the pairs that stand there.
-use Rattle.std.proofs.Common.{rules, ◌≡◌, ℕ, ◌+◌, ◌-◌, ◌*◌, ◌%◌, ◌^◌, ◌<◌, ◌≤◌, List, length, set, replicate, sym, ap, ◌∙◌, subst, ⊎_elim, arith}
-use Rattle.std.proofs.lemmas.Bool.{cases_lt, cases_eq, lt-ltb, le-ltb, cond-true, cond-false}
+use Rattle.std.proofs.Common.{rules, ◌≡◌, ℕ, ◌+◌, ◌-◌, ◌<◌, ◌≤◌, List, length, set, replicate, sym, ap, ◌∙◌, subst, ⊎_elim, arith}
+use Rattle.std.proofs.lemmas.Bool.{cases_lt, lt-ltb, le-ltb, cond-true, cond-false}
 use Rattle.slots.specs.declared.Slot.{Slot}
 use Rattle.slots.specs.Slots.{blank, node_at, Absent}
-use Rattle.slots.proofs.Rows.{node_same, node_other, fresh_node}
+use Rattle.slots.proofs.Rows.{fresh_node}
 use Rattle.cuckoo.specs.Homes.{first_of, second_of, home_of}
 use Rattle.cuckoo.specs.Layout.{Placed, Packed}
 
@@ -14,9 +14,6 @@ first_below n = search rules
 pub second_within : (n : ℕ) → (512 ≤ second_of n) × (second_of n < 1024)
 unfolding second_of
 second_within n = search rules
-
-pub home_first : (n : ℕ) → home_of (first_of n) n ≡ first_of n
-home_first n = cond-true _ _ _ (lt-ltb (first_of n) 512 (first_below n))
 
 -- a node that is neither at its two homes nor in the taken part of the overflow row is nowhere
 pub nowhere : (xs : List Slot) (n spilled : ℕ) → Placed xs → Packed xs spilled → 0 < n → (node_at xs (first_of n) ≡ n → ⊥) → (node_at xs (second_of n) ≡ n → ⊥) → ((k : ℕ) → (1024 ≤ k) × (k < 1024 + spilled) → node_at xs k ≡ n → ⊥) → Absent xs n

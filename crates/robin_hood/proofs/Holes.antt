@@ -51,10 +51,6 @@ module _ (xs : List Slot) (b : ℕ) (long : length xs ≡ 1024) (spread : Spread
       }
 
 module _ {xs₀ : List Slot} {b : ℕ} {xs : List Slot} {k : ℕ} (s : Hole xs₀ b xs k) where
-  -- the follower stays
-  pub hole_end : rank_at xs ((b + k + 1) % 1024) ≤ 1 → Spread xs
-  hole_end low j = search rules
-
   -- the follower moves back into the hole
   module _ (high : 1 < rank_at xs ((b + k + 1) % 1024)) (few : k < 1023) where
     abbrev n : ℕ

@@ -1,12 +1,11 @@
 -- Homes, displacements and ranks on the ring of 1,024 slots.
-use Rattle.std.proofs.Common.{rules, ◌≡◌, ℕ, zero, suc, ◌+◌, ◌*◌, ◌%◌, ◌^◌, ◌<◌, ◌≤◌, ◌≢◌, List, length, set, replicate, sym, ap, ◌∙◌, ⊎_elim, arith}
-use Rattle.std.proofs.lemmas.Bool.{cases_eq, ne_eqb}
+use Rattle.std.proofs.Common.{rules, ◌≡◌, ℕ, zero, suc, ◌+◌, ◌%◌, ◌<◌, ◌≤◌, ◌≢◌, List, length, set, replicate, ap, arith}
 use Rattle.std.proofs.lemmas.Bool.Decides.{nat_tests}
 use Rattle.slots.specs.declared.Slot.{Slot}
 use Rattle.robin_hood.specs.Homes.{home_of, away_of, rank_of}
 use Rattle.slots.specs.Slots.{blank, node_at}
 use Rattle.robin_hood.specs.Layout.{rank_at, Spread}
-use Rattle.slots.proofs.Rows.{fresh_node, node_same, node_other}
+use Rattle.slots.proofs.Rows.{fresh_node, node_other}
 
 pub home_below : (n : ℕ) → home_of n < 1024
 unfolding home_of

@@ -1,7 +1,5 @@
 -- What a put or a drop answers for a dictionary.
-use Rattle.std.proofs.Common.{rules, ◌≡◌, ℕ, ◌<◌, ◌≤◌, true, false, is_some, Some, None, Option, sym, ap, ◌∙◌, ⊎_elim, arith}
-use mathlib.Core.Path.{fun_ext}
-use Rattle.std.proofs.lemmas.Bool.{cases_eq, cond-true, cond-false, eq-eqb, ne_eqb}
+use Rattle.std.proofs.Common.{rules, ◌≡◌, ℕ, ◌<◌, ◌≤◌, true, false, is_some, Some, None, Option, ap, arith}
 use Rattle.std.proofs.lemmas.Bool.Decides.{nat_tests}
 use Rattle.dictionary.specs.Pairs.{Links, Pairs, with_pair, accepts}
 

@@ -4,7 +4,7 @@ use Rattle.std.proofs.Common.{rules, ◌≡◌, ℕ, ◌<◌, ◌≢◌, List, l
 use Rattle.std.proofs.lemmas.Bool.{cases_eq}
 use Rattle.slots.specs.declared.Slot.{Slot}
 use Rattle.slots.specs.Slots.{blank, node_at, pairs_of, held, Apart}
-use Rattle.slots.proofs.Rows.{node_same, node_other, apart_set, out_apart, pairs_found, pairs_here, pairs_fill, pairs_clear}
+use Rattle.slots.proofs.Rows.{node_other, out_apart, pairs_found, pairs_here, pairs_fill, pairs_clear}
 use Rattle.slots.proofs.Counts.{held_more, held_less}
 
 abbrev pub moved : List Slot → ℕ → ℕ → List Slot
