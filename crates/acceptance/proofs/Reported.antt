@@ -5,10 +5,10 @@
 --   counted_so   so they did, one after another on a new module
 --   reported     the report on it
 --   sold         it passes just where the capacity is 768
-use Rattle.std.proofs.Common.{◌≡◌, ℕ, ◌+◌, ◌-◌, ◌<◌, ◌≤◌, ◌≢◌, Bool, true, false, cond, ◌||◌, min, max, Some, is_some, ltb, eqb, ◌&&◌, ◌⊎◌, inl, inr, sym, refl, ap, ◌∙◌, subst, arith}
+use Rattle.std.proofs.Common.{rules, ◌≡◌, ℕ, ◌+◌, ◌-◌, ◌<◌, ◌≤◌, ◌≢◌, Bool, true, false, cond, ◌||◌, min, max, Some, is_some, ltb, eqb, ◌&&◌, ◌⊎◌, inl, inr, sym, refl, ap, ◌∙◌, subst, arith}
 use Rattle.std.proofs.lemmas.Bool.{cases_lt, cases_Bool}
 use Rattle.std.proofs.lemmas.Bool.Decides.{nat_tests}
-use Rattle.dictionary.specs.Pairs.{Links, Pairs, with_pair, no_pairs, accepts, one_more}
+use Rattle.dictionary.specs.Pairs.{Links, Pairs, with_pair, no_pairs, accepts}
 use Rattle.acceptance.specs.Nodes.{node_of, links_of}
 use Rattle.acceptance.specs.Stages.{Filled, right, Cleared, after_put, Tried}
 use Rattle.acceptance.specs.Reports.{stage, report_of, passes}
@@ -19,9 +19,7 @@ use Rattle.acceptance.proofs.Whole.{Stood, Upto, with_same, with_other, same_or,
 -- ---- puts at the capacity
 put_is : (room : ℕ) (f : Pairs) (h n : ℕ) (l : Links) (s b : Bool) → n ≢ 0 → is_some (f n) ≡ s → (s || ltb h room) ≡ b →
     after_put room f h n l ≡ cond b (with_pair f n (Some l), cond s h (h + 1)) (f, h)
-put_is room f h n l s b ne e q =
-    ap (λ x. cond x (with_pair f n (Some l), one_more (f n) h) (f, h)) (accepts_is f h room n ne ∙ (ap (λ x. x || ltb h room) e ∙ q))
-    ∙ ap (λ x. cond b (with_pair f n (Some l), cond x h (h + 1)) (f, h)) e
+put_is room f h n l s b ne e q = search rules
 
 upto_more : (f : Pairs) (m i : ℕ) (l : Links) → Upto f m → i ≤ 768 → i < m ⊎ 768 ≤ i → Upto (with_pair f (node_of i) (Some l)) m
 upto_more f m i l up il way j jl = elim (same_or i j) [
@@ -41,7 +39,7 @@ module _ (c m : ℕ) (f : Pairs) (h : ℕ) (st : Stood f m) (hm : h ≡ m) (mc :
   up j jl = st j (omega arith)
 
   out : is_some (f (node_of 768)) ≡ false
-  out = st 768 (omega arith) ∙ (let q : ltb 768 m ≡ false = grind (arith, nat_tests, mc) in q)
+  out = search rules
 
   first : is_some (f (node_of 0)) ≡ ltb 0 m
   first = st 0 (omega arith)
@@ -60,7 +58,7 @@ module _ (c m : ℕ) (f : Pairs) (h : ℕ) (st : Stood f m) (hm : h ≡ m) (mc :
   fuller = with_pair f last (Some links)
 
   some_first : 0 < m → is_some (f (node_of 0)) ≡ true
-  some_first z = first ∙ (let q : ltb 0 m ≡ true = grind (arith, nat_tests) in q)
+  some_first z = search rules
 
   -- there is room for the new node
   tried_more : (count : ℕ) (kept : Bool) (g : Pairs) (k : ℕ) → ltb 768 c ≡ true → Tried c f h count kept g k → TriedSo c m count kept g k
@@ -170,18 +168,11 @@ pub reported : (c : ℕ) (put read renewed reread refused dropped again left : S
     renewed ≡ stage (min 256 c) (min 768 c) 1792 → reread ≡ stage (min 256 c) (min 768 c) 2048 → refused ≡ stage (2 - more) (min 768 c + more) 2051 → kept ≡ ltb 0 c →
     dropped ≡ stage (min 768 c) more 2819 → again ≡ stage 0 more 3587 → left ≡ stage 0 more 4355 →
     (record { capacity = c; put = put; read = read; renewed = renewed; reread = reread; refused = refused; kept = kept; dropped = dropped; again = again; left = left }) ≡ report_of c
-reported c put read renewed reread refused dropped again left kept a b d e f g h k l =
-    λ i. record { capacity = c; put = a i; read = b i; renewed = d i; reread = e i; refused = f i; kept = g i; dropped = h i; again = k i; left = l i }
+reported c put read renewed reread refused dropped again left kept a b d e f g h k l = search rules
 
 ends_false : (b : Bool) → (b && false) ≡ false
 ends_false true = refl
 ends_false false = refl
 
 pub sold : (c : ℕ) → passes (report_of c) ≡ eqb c 768
-sold c = elim (cases_lt c 768) [
-  | inl l ↦ rw (let q : eqb (min 768 c) 768 ≡ false = grind (arith, nat_tests) in q) (let q : eqb c 768 ≡ false = grind (arith, nat_tests) in sym q)
-  | inr l ↦ elim (cases_lt 768 c) [
-    | inl k ↦ rw (let q : ltb 768 c ≡ true = grind (arith, nat_tests) in q) (ends_false _ ∙ (let q : eqb c 768 ≡ false = grind (arith, nat_tests) in sym q))
-    | inr k ↦ (let q : c ≡ 768 = omega arith in rw q refl)
-  ]
-]
+sold c = search rules

@@ -5,8 +5,7 @@
 --   right_so      the first nodes are read back
 --   Upto f m      of the first 768 nodes just the first m have a pair
 --   cleared_so    the first nodes are dropped
-use Rattle.std.proofs.Common.{◌≡◌, ℕ, zero, suc, ◌+◌, ◌-◌, ◌<◌, ◌≤◌, ◌≢◌, true, false, cond, ◌||◌, min, max, Some, None, Option, is_some, ltb, eqb, ◌⊎◌, inl, inr, sym, refl, ap, ◌∙◌, subst, arith}
-use Rattle.std.proofs.lemmas.Bool.{cases_lt}
+use Rattle.std.proofs.Common.{rules, ◌≡◌, ℕ, zero, suc, ◌+◌, ◌-◌, ◌<◌, ◌≤◌, ◌≢◌, true, false, cond, ◌||◌, min, max, Some, None, Option, is_some, ltb, ◌⊎◌, inl, inr, sym, refl, ap, ◌∙◌, subst, arith}
 use Rattle.std.proofs.lemmas.Bool.Decides.{nat_tests}
 use Rattle.dictionary.specs.Pairs.{Links, Pairs, with_pair, accepts, one_more, one_less}
 use Rattle.acceptance.specs.Nodes.{node_of, links_of}
@@ -17,40 +16,34 @@ abbrev pub Stood : Pairs → ℕ → Type 0
 Stood f m = (j : ℕ) → j ≤ 768 → is_some (f (node_of j)) ≡ ltb j m
 
 pub same_or : (i j : ℕ) → (i ≡ j) ⊎ (j ≢ i)
-same_or i j = elim (cases_lt i j) [
-  | inl l ↦ inr (λ e. omega (arith, e))
-  | inr l ↦ elim (cases_lt j i) [ inl m ↦ inr (λ e. omega (arith, e)) | inr m ↦ inl (omega arith) ]
-]
+same_or i j = search rules
 
 lies_below : (i k c : ℕ) → i < c → ltb i (max k (min (i + 1) c)) ≡ true
 lies_below i k c h = grind (arith, nat_tests)
 
 -- ---- one pair more
 pub with_same : (f : Pairs) (n : ℕ) (v : Option Links) → with_pair f n v n ≡ v
-with_same f n v = rw (let e : eqb n n ≡ true = grind (arith, nat_tests) in e) refl
+with_same f n v = search rules
 
 pub with_other : (f : Pairs) (n k : ℕ) (v : Option Links) → n ≢ k → with_pair f k v n ≡ f n
-with_other f n k v ne = rw (let e : eqb n k ≡ false = grind (arith, nat_tests, ne) in e) refl
+with_other f n k v ne = search rules
 
 -- a put of a node above 0 is accepted where it stands or there is room
 pub accepts_is : (f : Pairs) (h c n : ℕ) → n ≢ 0 → accepts f h c n ≡ (is_some (f n) || ltb h c)
-accepts_is f h c n ne = rw (let e : eqb n 0 ≡ false = grind (arith, nat_tests, ne) in e) refl
+accepts_is f h c n ne = search rules
 
 -- ---- putting: on a module on which the first k stand, the i-th put is accepted just where i is below the capacity
 is_below : (i k c : ℕ) → k ≤ c → (ltb i (max k (min i c)) || ltb (max k (min i c)) c) ≡ true → i < c
-is_below i k c h e = elim (cases_lt i c) [ inl l ↦ l | inr l ↦ absurd (grind (arith, nat_tests)) ]
+is_below i k c h e = search rules
 
 is_beyond : (i k c : ℕ) → k ≤ c → (ltb i (max k (min i c)) || ltb (max k (min i c)) c) ≡ false → c ≤ i
-is_beyond i k c h e = elim (cases_lt i c) [ inl l ↦ absurd (grind (arith, nat_tests)) | inr l ↦ l ]
+is_beyond i k c h e = search rules
 
 held_more : (i k c : ℕ) → k ≤ c → i < c → cond (ltb i (max k (min i c))) (max k (min i c)) (max k (min i c) + 1) ≡ max k (min (i + 1) c)
-held_more i k c h l = elim (cases_lt i k) [
-  | inl m ↦ rw (let e : ltb i (max k (min i c)) ≡ true = grind (arith, nat_tests) in e) (omega arith)
-  | inr m ↦ rw (let e : ltb i (max k (min i c)) ≡ false = grind (arith, nat_tests) in e) (omega arith)
-]
+held_more i k c h l = search rules
 
 same_below : (i j k c : ℕ) → k ≤ c → i < c → j ≢ i → ltb j (max k (min i c)) ≡ ltb j (max k (min (i + 1) c))
-same_below i j k c h l ne = elim (cases_lt j (max k (min i c))) [ inl m ↦ grind (arith, nat_tests) | inr m ↦ grind (arith, nat_tests) ]
+same_below i j k c h l ne = search rules
 
 pub record FilledSo (c round k i n : ℕ) (u : Pairs) (h : ℕ) : Type 0 where
   pub number : n ≡ min i c
@@ -82,14 +75,7 @@ module _ (c round k : ℕ) (f : Pairs) (kc : k ≤ c) (kl : k ≤ 768) (st : Sto
   }
 
   refused_so : (i n h : ℕ) (u : Pairs) → FilledSo c round k i n u h → c ≤ i → FilledSo c round k (i + 1) n u h
-  refused_so i n h u so le =
-      let e : min (i + 1) c ≡ min i c = omega arith in
-      record {
-        number = so.number ∙ sym e;
-        held = so.held ∙ ap (max k) (sym e);
-        stood = subst (λ x. Stood u (max k x)) (sym e) so.stood;
-        newer = λ j jl. so.newer j (omega arith);
-      }
+  refused_so i n h u so le = search rules
 
   pub filled_so : {i n h : ℕ} {u : Pairs} → Filled c round f k i n u h → i ≤ 768 → FilledSo c round k i n u h
   filled_so start le = record { number = omega arith; held = omega arith; stood = subst (Stood f) (omega arith) st; newer = λ j jl. absurd (omega arith) }
@@ -105,24 +91,12 @@ pub has_none : (o : Option Links) (l : Links) → is_some o ≡ false → has o 
 has_none None l e = refl
 has_none (Some p) l e = absurd (let z : ◌≡◌ {A = ℕ} 0 1 = cc in omega arith)
 
-has_same : (l : Links) → has (Some l) l ≡ true
-has_same l = rw (let e : eqb l.0 l.0 ≡ true = grind (arith, nat_tests) in e) (let e : eqb l.1 l.1 ≡ true = grind (arith, nat_tests) in e)
-
 pub has_where : (f : Pairs) (round m s i : ℕ) → m ≤ 768 → Stood f m → ((j : ℕ) → j < s → f (node_of j) ≡ Some (links_of j round)) → (s ≡ m) ⊎ (i ≤ s) → i ≤ 768 →
     (j : ℕ) → j < i → has (f (node_of j)) (links_of j round) ≡ ltb j s
-has_where f round m s i ml st newer way il j jl = elim (cases_lt j s) [
-  | inl l ↦ ap (λ o. has o (links_of j round)) (newer j l) ∙ (has_same (links_of j round) ∙ sym (let e : ltb j s ≡ true = grind (arith, nat_tests) in e))
-  | inr l ↦ elim way [
-    | inl e ↦ has_none (f (node_of j)) (links_of j round) (st j (omega arith) ∙ (let q : ltb j m ≡ false = grind (arith, nat_tests, e) in q)) ∙ sym (let q : ltb j s ≡ false = grind (arith, nat_tests) in q)
-    | inr le ↦ absurd (omega arith)
-  ]
-]
+has_where f round m s i ml st newer way il j jl = search rules
 
 right_step : (i s : ℕ) → min i s + cond (ltb i s) 1 0 ≡ min (i + 1) s
-right_step i s = elim (cases_lt i s) [
-  | inl l ↦ rw (let e : ltb i s ≡ true = grind (arith, nat_tests) in e) (omega arith)
-  | inr l ↦ rw (let e : ltb i s ≡ false = grind (arith, nat_tests) in e) (omega arith)
-]
+right_step i s = search rules
 
 pub right_so : (f : Pairs) (round s i : ℕ) → ((j : ℕ) → j < i → has (f (node_of j)) (links_of j round) ≡ ltb j s) → right f round i ≡ min i s
 unfolding right
@@ -142,10 +116,7 @@ pub record ClearedSo (m e i n : ℕ) (u : Pairs) (h : ℕ) : Type 0 where
   pub later : (j : ℕ) → j < 768 → i ≤ j → is_some (u (node_of j)) ≡ ltb j m
 
 held_less : (i m e h : ℕ) → h + min i m ≡ m + e → cond (ltb i m) (h - 1) h + min (i + 1) m ≡ m + e
-held_less i m e h k = elim (cases_lt i m) [
-  | inl l ↦ rw (let q : ltb i m ≡ true = grind (arith, nat_tests) in q) (omega arith)
-  | inr l ↦ rw (let q : ltb i m ≡ false = grind (arith, nat_tests) in q) (omega arith)
-]
+held_less i m e h k = search rules
 
 module _ (m e : ℕ) (f : Pairs) (up : Upto f m) where
   drop_so : (i n h : ℕ) (u : Pairs) → i + 1 ≤ 768 → ClearedSo m e i n u h →

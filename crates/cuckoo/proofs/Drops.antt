@@ -1,5 +1,5 @@
 -- A drop from the overflow row, whose last pair moves into the hole.
-use Rattle.std.proofs.Common.{◌≡◌, ℕ, ◌+◌, ◌-◌, ◌<◌, ◌≤◌, ◌≢◌, List, length, get_or, set, None, sym, refl, ap, ◌∙◌, subst, ⊎_elim, arith, length-set}
+use Rattle.std.proofs.Common.{rules, ◌≡◌, ℕ, ◌+◌, ◌-◌, ◌<◌, ◌≤◌, ◌≢◌, List, length, get_or, set, None, sym, refl, ap, ◌∙◌, subst, ⊎_elim, arith, length-set}
 use Rattle.std.proofs.lemmas.List.{get_or-set_other, set-set, set_comm}
 use Rattle.std.proofs.lemmas.Bool.{cases_lt, cases_eq}
 use Rattle.dictionary.specs.Pairs.{with_pair}
@@ -9,7 +9,6 @@ use Rattle.slots.proofs.Rows.{node_same, node_other, taken_within, out_apart, ou
 use Rattle.slots.proofs.Counts.{held_less}
 use Rattle.slots.proofs.Moves.{moved, move_apart, move_held, move_pairs}
 use Rattle.cuckoo.specs.Layout.{Placed, Packed}
-use Rattle.cuckoo.proofs.Standing.{placed_set}
 
 -- a row zs without the pair in the slot at of the row xs
 pub record Gone (xs : List Slot) (at : ℕ) (zs : List Slot) : Type 0 where
@@ -61,10 +60,7 @@ module _ (xs : List Slot) (at : ℕ) (within : at < length xs) (apart : Apart xs
         (cases_eq at l)
 
     pub filled_placed : 1024 ≤ at → Placed xs → Placed filled
-    filled_placed high placed =
-        placed_set (set xs at (get_or xs l blank)) l blank (rw length-set l_within)
-        (placed_set xs at (get_or xs l blank) within placed (λ pe. absurd (omega (arith, pe.1))))
-        (λ pe. absurd (omega (arith, pe.0)))
+    filled_placed high placed = search rules
 
 -- the slots of a packed overflow row
 module _ (xs : List Slot) (n at : ℕ) (packed : Packed xs n) (high : 1024 ≤ at) (taken : 0 < node_at xs at) where

@@ -1,16 +1,12 @@
 -- The overflow row, which is packed at its front.
-use Rattle.std.proofs.Common.{◌≡◌, ℕ, ◌+◌, ◌-◌, ◌<◌, ◌≤◌, List, length, drop, take, set, replicate, sym, ap, ◌∙◌, ⊎_elim, arith}
+use Rattle.std.proofs.Common.{rules, ◌≡◌, ℕ, ◌+◌, ◌-◌, ◌<◌, ◌≤◌, List, length, drop, take, set, replicate, ap, ◌∙◌, ⊎_elim, arith}
 use Rattle.std.proofs.lemmas.List.{get_or-drop, get_or-take, length-drop, length-take-le}
-use Rattle.std.proofs.lemmas.Bool.{cases_lt, cases_eq}
+use Rattle.std.proofs.lemmas.Bool.{cases_lt}
 use Rattle.slots.specs.declared.Slot.{Slot}
 use Rattle.slots.specs.Slots.{blank, node_at, held}
-use Rattle.slots.proofs.Rows.{node_same, node_other, taken_within, fresh_node}
+use Rattle.slots.proofs.Rows.{taken_within, fresh_node}
 use Rattle.slots.proofs.Counts.{held_packed, held_drop}
 use Rattle.cuckoo.specs.Layout.{Packed}
-
--- a row with the same nodes in its overflow part
-packed_like : (xs ys : List Slot) (n : ℕ) → ((k : ℕ) → node_at ys (1024 + k) ≡ node_at xs (1024 + k)) → Packed xs n → Packed ys n
-packed_like xs ys n like packed = (λ k h. omega (arith, like k, packed.0 k h), λ k h. like k ∙ packed.1 k h)
 
 module _ (xs : List Slot) (n : ℕ) (packed : Packed xs n) where
   -- as many pairs stand there as slots are said to be taken
@@ -40,18 +36,11 @@ module _ (xs : List Slot) (n : ℕ) (packed : Packed xs n) where
 
   -- a slot of the two rows is written
   pub packed_below : (p : ℕ) (c : Slot) → p < length xs → p < 1024 → Packed (set xs p c) n
-  packed_below p c within low = packed_like xs (set xs p c) n (λ k. node_other xs p c within (1024 + k) (omega arith)) packed
+  packed_below p c within low = search rules
 
   -- a pair spills to the first free slot
   pub packed_spill : (c : Slot) → 1024 + n < length xs → 0 < c.node → Packed (set xs (1024 + n) c) (n + 1)
-  packed_spill c within some = (
-    λ k h.
-        ⊎_elim
-        (λ (a : k ≡ n). rw a (omega (arith, node_same xs (1024 + n) c within)))
-        (λ (na : k ≡ n → ⊥). omega (arith, node_other xs (1024 + n) c within (1024 + k) (omega arith), packed.0 k (omega arith)))
-        (cases_eq k n),
-    λ k h. node_other xs (1024 + n) c within (1024 + k) (omega arith) ∙ packed.1 k (omega arith),
-  )
+  packed_spill c within some = search rules
 
 pub fresh_packed : (n : ℕ) → Packed (replicate n blank) 0
 fresh_packed n = (λ k h. absurd (omega arith), λ k h. fresh_node n (1024 + k))

@@ -1,11 +1,11 @@
 -- A put that carries a pair from home to home.
-use Rattle.std.proofs.Common.{◌≡◌, ℕ, ◌+◌, ◌<◌, List, length, get_or, set, arith}
+use Rattle.std.proofs.Common.{rules, ◌≡◌, ℕ, ◌+◌, ◌<◌, List, length, get_or, set, arith}
 use Rattle.slots.specs.declared.Slot.{Slot}
-use Rattle.slots.specs.Slots.{blank, node_at, held, Apart, Absent}
-use Rattle.slots.proofs.Carried.{Carried, carried_start, swapped}
-use Rattle.cuckoo.specs.Homes.{first_of, home_of}
+use Rattle.slots.specs.Slots.{blank, node_at, held}
+use Rattle.slots.proofs.Carried.{Carried, swapped}
+use Rattle.cuckoo.specs.Homes.{home_of}
 use Rattle.cuckoo.specs.Layout.{Placed, Packed}
-use Rattle.cuckoo.proofs.Standing.{first_below, home_first, placed_set}
+use Rattle.cuckoo.proofs.Standing.{placed_set}
 use Rattle.cuckoo.proofs.Packing.{packed_below, packed_few, packed_spill}
 
 -- the pair c is carried to its home at
@@ -35,7 +35,7 @@ module _ {xs₀ : List Slot} {new : Slot} {n : ℕ} {xs : List Slot} {c : Slot} 
     spill_within = omega (arith, s.carried.long, s.carried.count, packed_few xs n s.packed)
 
     pub spill_placed : Placed (set xs (1024 + n) c)
-    spill_placed = placed_set xs (1024 + n) c spill_within s.placed (λ pe. absurd (omega (arith, pe.1)))
+    spill_placed = search rules
 
     pub spill_packed : Packed (set xs (1024 + n) c) (n + 1)
     spill_packed = packed_spill xs n s.packed c spill_within s.carried.some

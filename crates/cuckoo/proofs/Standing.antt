@@ -1,22 +1,19 @@
 -- Homes of nodes in the two rows, and the pairs that stand there.
-use Rattle.std.proofs.Common.{◌≡◌, ℕ, ◌+◌, ◌-◌, ◌*◌, ◌%◌, ◌^◌, ◌<◌, ◌≤◌, List, length, set, replicate, sym, ap, ◌∙◌, subst, ⊎_elim, arith}
-use Rattle.std.proofs.lemmas.Bool.{cases_lt, cases_eq, lt-ltb, le-ltb, cond-true, cond-false}
+use Rattle.std.proofs.Common.{rules, ◌≡◌, ℕ, ◌+◌, ◌-◌, ◌<◌, ◌≤◌, List, length, set, replicate, sym, ap, ◌∙◌, subst, ⊎_elim, arith}
+use Rattle.std.proofs.lemmas.Bool.{cases_lt, lt-ltb, le-ltb, cond-true, cond-false}
 use Rattle.slots.specs.declared.Slot.{Slot}
 use Rattle.slots.specs.Slots.{blank, node_at, Absent}
-use Rattle.slots.proofs.Rows.{node_same, node_other, fresh_node}
+use Rattle.slots.proofs.Rows.{fresh_node}
 use Rattle.cuckoo.specs.Homes.{first_of, second_of, home_of}
 use Rattle.cuckoo.specs.Layout.{Placed, Packed}
 
 pub first_below : (n : ℕ) → first_of n < 512
 unfolding first_of
-first_below n = let z : (n * 0x9E3779B97F4A7C15) % 2 ^ 64 < 2 ^ 64 = omega arith in omega arith
+first_below n = search rules
 
 pub second_within : (n : ℕ) → (512 ≤ second_of n) × (second_of n < 1024)
 unfolding second_of
-second_within n = let z : (n * 0xC2B2AE3D27D4EB4F) % 2 ^ 64 < 2 ^ 64 = omega arith in omega arith
-
-pub home_first : (n : ℕ) → home_of (first_of n) n ≡ first_of n
-home_first n = cond-true _ _ _ (lt-ltb (first_of n) 512 (first_below n))
+second_within n = search rules
 
 -- a node that is neither at its two homes nor in the taken part of the overflow row is nowhere
 pub nowhere : (xs : List Slot) (n spilled : ℕ) → Placed xs → Packed xs spilled → 0 < n → (node_at xs (first_of n) ≡ n → ⊥) → (node_at xs (second_of n) ≡ n → ⊥) → ((k : ℕ) → (1024 ≤ k) × (k < 1024 + spilled) → node_at xs k ≡ n → ⊥) → Absent xs n
@@ -39,15 +36,7 @@ nowhere xs n spilled placed packed pos one two over i is =
 
 -- a slot is written with a pair at its home, or in the overflow row
 pub placed_set : (xs : List Slot) (p : ℕ) (c : Slot) → p < length xs → Placed xs → ((0 < c.node) × (p < 1024) → home_of p c.node ≡ p) → Placed (set xs p c)
-placed_set xs p c h placed home i pe =
-    ⊎_elim
-    (λ (a : i ≡ p).
-    let e : node_at (set xs p c) i ≡ c.node = ap (node_at (set xs p c)) a ∙ node_same xs p c h in
-    ap (home_of i) e ∙ ap (λ x. home_of x c.node) a ∙ home (omega (arith, pe.0), omega (arith, pe.1)) ∙ sym a)
-    (λ (na : i ≡ p → ⊥).
-    let e = node_other xs p c h i na in
-    ap (home_of i) e ∙ placed i (omega (arith, pe.0), pe.1))
-    (cases_eq i p)
+placed_set xs p c h placed home i pe = search rules
 
 pub fresh_placed : (n : ℕ) → Placed (replicate n blank)
 fresh_placed n i pe = absurd (omega (arith, fresh_node n i, pe.0))

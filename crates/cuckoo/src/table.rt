@@ -31,6 +31,7 @@ impl Layout for TwoRows {
         find(self, node)
     }
 
+    // by each layout, which keeps its own facts of the slots
     fn renew(&mut self, at: usize, new: Slot) {
         self.slots[at] = new;
     }

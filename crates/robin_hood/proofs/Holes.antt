@@ -1,5 +1,5 @@
 -- A drop that moves a hole along the ring.
-use Rattle.std.proofs.Common.{◌≡◌, ℕ, ◌+◌, ◌-◌, ◌%◌, ◌<◌, ◌≤◌, ◌≢◌, List, length, get_or, set, sym, refl, ap, ◌∙◌, subst, ⊎_elim, arith, length-set}
+use Rattle.std.proofs.Common.{rules, ◌≡◌, ℕ, ◌+◌, ◌-◌, ◌%◌, ◌<◌, ◌≤◌, ◌≢◌, List, length, get_or, set, sym, refl, ap, ◌∙◌, subst, ⊎_elim, arith, length-set}
 use Rattle.std.proofs.lemmas.Bool.{cases_lt, cases_eq}
 use Rattle.slots.specs.declared.Slot.{Slot}
 use Rattle.slots.specs.Slots.{blank, node_at, pairs_of, held, Apart}
@@ -51,16 +51,6 @@ module _ (xs : List Slot) (b : ℕ) (long : length xs ≡ 1024) (spread : Spread
       }
 
 module _ {xs₀ : List Slot} {b : ℕ} {xs : List Slot} {k : ℕ} (s : Hole xs₀ b xs k) where
-  -- the follower stays
-  pub hole_end : rank_at xs ((b + k + 1) % 1024) ≤ 1 → Spread xs
-  hole_end low j =
-      ⊎_elim
-      (λ (a : j % 1024 ≡ (b + k) % 1024).
-      let e : (j + 1) % 1024 ≡ (b + k + 1) % 1024 = omega arith in
-      omega (arith, ap (rank_at xs) e))
-      (λ (na : j % 1024 ≡ (b + k) % 1024 → ⊥). s.spread j na)
-      (cases_eq (j % 1024) ((b + k) % 1024))
-
   -- the follower moves back into the hole
   module _ (high : 1 < rank_at xs ((b + k + 1) % 1024)) (few : k < 1023) where
     abbrev n : ℕ
@@ -96,7 +86,7 @@ module _ {xs₀ : List Slot} {b : ℕ} {xs : List Slot} {k : ℕ} (s : Hole xs�
         rank_other ys p f p_within i ne ∙ rank_same xs n blank n_within i e ∙ rank_zero n 0 refl
 
     rank_else : (i : ℕ) → i ≢ p → i ≢ n → rank_at (set ys p f) i ≡ rank_at xs i
-    rank_else i np nn = rank_other ys p f p_within i np ∙ rank_other xs n blank n_within i nn
+    rank_else i np nn = search rules
 
     pub hole_move : Hole xs₀ b (set ys p f) (k + 1)
     hole_move =

@@ -1,16 +1,15 @@
 -- Homes, displacements and ranks on the ring of 1,024 slots.
-use Rattle.std.proofs.Common.{◌≡◌, ℕ, zero, suc, ◌+◌, ◌*◌, ◌%◌, ◌^◌, ◌<◌, ◌≤◌, ◌≢◌, List, length, set, replicate, sym, ap, ◌∙◌, ⊎_elim, arith}
-use Rattle.std.proofs.lemmas.Bool.{cases_eq, ne_eqb}
+use Rattle.std.proofs.Common.{rules, ◌≡◌, ℕ, zero, suc, ◌+◌, ◌%◌, ◌<◌, ◌≤◌, ◌≢◌, List, length, set, replicate, ap, arith}
 use Rattle.std.proofs.lemmas.Bool.Decides.{nat_tests}
 use Rattle.slots.specs.declared.Slot.{Slot}
 use Rattle.robin_hood.specs.Homes.{home_of, away_of, rank_of}
 use Rattle.slots.specs.Slots.{blank, node_at}
 use Rattle.robin_hood.specs.Layout.{rank_at, Spread}
-use Rattle.slots.proofs.Rows.{fresh_node, node_same, node_other}
+use Rattle.slots.proofs.Rows.{fresh_node, node_other}
 
 pub home_below : (n : ℕ) → home_of n < 1024
 unfolding home_of
-home_below n = let z : (n * 0x9E3779B97F4A7C15) % 2 ^ 64 < 2 ^ 64 = omega arith in omega arith
+home_below n = search rules
 
 -- a slot is its displacement away from the home
 pub around : (i n : ℕ) → i < 1024 → (home_of n + away_of i n) % 1024 ≡ i
@@ -39,52 +38,28 @@ descent xs s h (suc e) =
 -- one slot on, the rank of a node rises by at most one
 pub rank_step : (n j : ℕ) → rank_of ((j + 1) % 1024) n ≤ rank_of (j % 1024) n + 1
 unfolding rank_of
-rank_step n j =
-    ⊎_elim (λ (z : n ≡ 0). rw z (omega arith))
-    (λ (nz : n ≡ 0 → ⊥). rw (ne_eqb n 0 nz) (omega (arith, home_below n)))
-    (cases_eq n 0)
+rank_step n j = search rules
 
 -- one slot back, a rank above 1 falls by one
 pub rank_back : (n j : ℕ) → 1 < rank_of ((j + 1) % 1024) n → rank_of (j % 1024) n + 1 ≡ rank_of ((j + 1) % 1024) n
 unfolding rank_of
-rank_back n j =
-    ⊎_elim (λ (z : n ≡ 0). rw z (omega arith))
-    (λ (nz : n ≡ 0 → ⊥). rw (ne_eqb n 0 nz) (omega (arith, home_below n)))
-    (cases_eq n 0)
+rank_back n j = search rules
 
 -- at its home a node has rank 1
 pub rank_home : (n : ℕ) → rank_of (home_of n) n ≤ 1
 unfolding rank_of
-rank_home n =
-    ⊎_elim (λ (z : n ≡ 0). rw z (omega arith))
-    (λ (nz : n ≡ 0 → ⊥). rw (ne_eqb n 0 nz) (omega (arith, home_below n)))
-    (cases_eq n 0)
+rank_home n = search rules
 
 module _ (xs : List Slot) (p : ℕ) (c : Slot) (within : p < length xs) where
   pub rank_same : (i : ℕ) → i ≡ p → rank_at (set xs p c) i ≡ rank_of p c.node
-  rank_same i e = ap (rank_at (set xs p c)) e ∙ ap (rank_of p) (node_same xs p c within)
+  rank_same i e = search rules
 
   pub rank_other : (i : ℕ) → i ≢ p → rank_at (set xs p c) i ≡ rank_at xs i
   rank_other i ne = ap (rank_of i) (node_other xs p c within i ne)
 
 -- the slot at t is written, and its rank falls neither below the old nor rises past what the slot before allows
 pub spread_set : (xs : List Slot) (t : ℕ) (c : Slot) → length xs ≡ 1024 → Spread xs → rank_of (t % 1024) c.node ≤ rank_at xs ((t + 1023) % 1024) + 1 → rank_at xs (t % 1024) ≤ rank_of (t % 1024) c.node → Spread (set xs (t % 1024) c)
-spread_set xs t c long s fits up j =
-    let p : ℕ = t % 1024 in
-    let h : p < length xs = omega arith in
-    ⊎_elim
-    (λ (a : j % 1024 ≡ p).
-    let nb : (j + 1) % 1024 ≢ p = omega arith in
-    omega (arith, s j, rank_same xs p c h (j % 1024) a, rank_other xs p c h ((j + 1) % 1024) nb, ap (rank_at xs) a))
-    (λ (na : j % 1024 ≡ p → ⊥).
-    ⊎_elim
-    (λ (b : (j + 1) % 1024 ≡ p).
-    let e : j % 1024 ≡ (t + 1023) % 1024 = omega arith in
-    omega (arith, rank_same xs p c h ((j + 1) % 1024) b, rank_other xs p c h (j % 1024) na, ap (rank_at xs) e))
-    (λ (nb : (j + 1) % 1024 ≡ p → ⊥).
-    omega (arith, s j, rank_other xs p c h ((j + 1) % 1024) nb, rank_other xs p c h (j % 1024) na))
-    (cases_eq ((j + 1) % 1024) p))
-    (cases_eq (j % 1024) p)
+spread_set xs t c long s fits up j = search rules
 
 -- a row of empty slots
 pub fresh_spread : (n : ℕ) → Spread (replicate n blank)

@@ -1,5 +1,5 @@
 -- What a drop leaves in each slot, while its followers move back.
-use Rattle.std.proofs.Common.{◌≡◌, ℕ, ◌+◌, ◌%◌, ◌<◌, ◌≤◌, ◌≢◌, List, length, get_or, set, refl, ap, ◌∙◌, subst, ⊎_elim, arith, length-set}
+use Rattle.std.proofs.Common.{rules, ◌≡◌, ℕ, ◌+◌, ◌%◌, ◌<◌, ◌≤◌, ◌≢◌, List, length, get_or, set, ap, ◌∙◌, ⊎_elim, arith, length-set}
 use Rattle.std.proofs.lemmas.List.{get_or-set_same, get_or-set_other}
 use Rattle.std.proofs.lemmas.Bool.{cases_lt}
 use Rattle.slots.specs.declared.Slot.{Slot}
@@ -15,14 +15,7 @@ rank_like : (xs ys : List Slot) (i : ℕ) → slot_at ys i ≡ slot_at xs i → 
 rank_like xs ys i e = ap (λ (s : Slot). rank_of i s.node) e
 
 pub shift_start : (xs : List Slot) (from : ℕ) → from < length xs → length xs ≡ 1024 → Shifted (set xs from blank) from 0 (set xs from blank)
-shift_start xs from within long =
-    let e : (from + 0) % 1024 ≡ from = omega arith in
-    record {
-      away = λ j l. absurd (omega arith);
-      moved = λ j l. absurd (omega arith);
-      emptied = rw e (get_or-set_same xs from blank blank within);
-      kept = λ j l. refl;
-    }
+shift_start xs from within long = search rules
 
 module _ {xs : List Slot} {from k : ℕ} {ys : List Slot} (s : Shifted xs from k ys) (few : k < 1023) where
   abbrev p : ℕ
@@ -32,9 +25,7 @@ module _ {xs : List Slot} {from k : ℕ} {ys : List Slot} (s : Shifted xs from k
   n = (from + k + 1) % 1024
 
   next : slot_at ys n ≡ slot_at xs n
-  next =
-      let e : (from + (k + 1)) % 1024 ≡ n = omega arith in
-      subst (λ i. slot_at ys i ≡ slot_at xs i) e (s.kept (k + 1) (omega arith, omega arith))
+  next = search rules
 
   -- the follower moves back
   module _ (long : length ys ≡ 1024) (high : 1 < rank_at ys n) where
@@ -42,7 +33,7 @@ module _ {xs : List Slot} {from k : ℕ} {ys : List Slot} (s : Shifted xs from k
     zs = set (set ys n blank) p (slot_at ys n)
 
     else : (i : ℕ) → i ≢ p → i ≢ n → slot_at zs i ≡ slot_at ys i
-    else i np nn = get_or-set_other (set ys n blank) p i (slot_at ys n) blank np ∙ get_or-set_other ys n i blank blank nn
+    else i np nn = search rules
 
     pub shift_move : Shifted xs from (k + 1) zs
     shift_move =

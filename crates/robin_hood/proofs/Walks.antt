@@ -1,5 +1,5 @@
 -- The walk for a node, from its home on.
-use Rattle.std.proofs.Common.{◌≡◌, ℕ, ◌+◌, ◌-◌, ◌%◌, ◌<◌, ◌≤◌, List, length, refl, ⊎_elim, arith}
+use Rattle.std.proofs.Common.{rules, ◌≡◌, ℕ, ◌+◌, ◌-◌, ◌%◌, ◌<◌, ◌≤◌, List, length, refl, ⊎_elim, arith}
 use Rattle.std.proofs.lemmas.Bool.{cases_lt, cases_eq}
 use Rattle.slots.specs.declared.Slot.{Slot}
 use Rattle.slots.specs.Slots.{node_at, held, Absent}
@@ -24,9 +24,6 @@ pub record Walked (xs : List Slot) (n h k : ℕ) : Type 0 where
   pub some : 0 < n
   pub passed : (j : ℕ) → j < k → Passes xs n ((home_of n + j) % 1024)
 
-pub walk_start : (xs : List Slot) (n h : ℕ) → h ≡ home_of n → length xs ≡ 1024 → 0 < n → Walked xs n h 0
-walk_start xs n h home long some = record { home = home; long = long; some = some; passed = λ j l. absurd (omega arith) }
-
 module _ {xs : List Slot} {n h k : ℕ} (w : Walked xs n h k) where
   abbrev at : ℕ
   at = (h + k) % 1024
@@ -50,7 +47,7 @@ module _ {xs : List Slot} {n h k : ℕ} (w : Walked xs n h k) where
       }
 
   pub walk_reaches : k < 1024 → Reaches xs n at
-  walk_reaches l = record { within = omega arith; before = λ j b. w.passed j (omega (arith, rw (← at_is) at (away_at n k l))) }
+  walk_reaches l = search rules
 
   pub walk_stops : k < 1024 → rank_at xs at ≤ k → Stops xs n at
   walk_stops l low = omega (arith, rank_here l)

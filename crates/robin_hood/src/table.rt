@@ -29,6 +29,7 @@ impl Layout for Ring {
         find(self, node).ok()
     }
 
+    // by each layout, which keeps its own facts of the slots
     fn renew(&mut self, at: usize, new: Slot) {
         self.slots[at] = new;
     }

@@ -1,5 +1,5 @@
 -- A pair carried along a row of slots, until it comes to an empty one.
-use Rattle.std.proofs.Common.{◌≡◌, ℕ, ◌+◌, ◌<◌, ◌≢◌, List, length, get_or, set, sym, refl, ap, ◌∙◌, ⊎_elim, arith, length-set}
+use Rattle.std.proofs.Common.{rules, ◌≡◌, ℕ, ◌+◌, ◌<◌, ◌≢◌, List, length, get_or, set, sym, refl, ap, ◌∙◌, ⊎_elim, arith, length-set}
 use Rattle.std.proofs.lemmas.Bool.{cases_eq, cond-true, cond-false, eq-eqb, ne_eqb}
 use Rattle.dictionary.specs.Pairs.{with_pair}
 use Rattle.slots.specs.declared.Slot.{Slot}
@@ -17,7 +17,7 @@ pub record Carried (size : ℕ) (xs₀ : List Slot) (new : Slot) (xs : List Slot
   pub pairs : (m : ℕ) → with_pair (pairs_of xs) c.node (links_of c) m ≡ with_pair (pairs_of xs₀) new.node (links_of new) m
 
 pub carried_start : {size : ℕ} {xs : List Slot} {c : Slot} → length xs ≡ size → Apart xs → 0 < c.node → Absent xs c.node → Carried size xs c xs c
-carried_start long apart some absent = record { long = long; apart = apart; some = some; absent = absent; count = refl; pairs = λ m. refl }
+carried_start long apart some absent = search rules
 
 module _ {size : ℕ} {xs₀ : List Slot} {new : Slot} {xs : List Slot} {c : Slot} (s : Carried size xs₀ new xs c) (p : ℕ) (h : p < length xs) where
   pub put_apart : Apart (set xs p c)

@@ -1,6 +1,5 @@
 -- How many slots of a row are taken, before and after one is written.
-use Rattle.std.proofs.Common.{◌≡◌, ℕ, zero, suc, ◌+◌, ◌<◌, ◌≤◌, cond, eqb, List, [], ◌∷◌, length, drop, set, replicate, refl, inl, inr, arith}
-use Rattle.std.proofs.lemmas.Bool.{cases_Bool}
+use Rattle.std.proofs.Common.{rules, ◌≡◌, ℕ, zero, suc, ◌+◌, ◌<◌, ◌≤◌, cond, eqb, List, [], ◌∷◌, length, drop, set, replicate, refl, arith}
 use Rattle.std.proofs.lemmas.Bool.Decides.{nat_tests}
 use Rattle.slots.specs.declared.Slot.{Slot}
 use Rattle.slots.specs.Slots.{blank, node_at, nodes_of, held}
@@ -11,7 +10,7 @@ weight n = cond (eqb n 0) 0 1
 
 held_cons : (s : Slot) (ss : List Slot) → held (s ∷ ss) ≡ weight s.node + held ss
 unfolding nodes_of
-held_cons s ss = elim (cases_Bool (eqb s.node 0)) [ inl e ↦ rw e (omega arith) | inr e ↦ rw e (omega arith) ]
+held_cons s ss = search rules
 
 held_set : (xs : List Slot) (p : ℕ) (c : Slot) → p < length xs → held (set xs p c) + weight (node_at xs p) ≡ held xs + weight c.node
 held_set [] p c h = absurd (omega arith)

@@ -1,14 +1,11 @@
 -- What a put or a drop answers for a dictionary.
-use Rattle.std.proofs.Common.{◌≡◌, ℕ, ◌<◌, ◌≤◌, true, false, is_some, Some, None, Option, sym, ap, ◌∙◌, ⊎_elim, arith}
-use mathlib.Core.Path.{fun_ext}
-use Rattle.std.proofs.lemmas.Bool.{cases_eq, cond-true, cond-false, eq-eqb, ne_eqb}
+use Rattle.std.proofs.Common.{rules, ◌≡◌, ℕ, ◌<◌, ◌≤◌, true, false, is_some, Some, None, Option, ap, arith}
 use Rattle.std.proofs.lemmas.Bool.Decides.{nat_tests}
 use Rattle.dictionary.specs.Pairs.{Links, Pairs, with_pair, accepts}
 
 -- the pair of a node is put as it is
 pub with_same : (f : Pairs) (n : ℕ) (v : Option Links) → f n ≡ v → f ≡ with_pair f n v
-with_same f n v e =
-    fun_ext (λ m. ⊎_elim (λ (a : m ≡ n). ap f a ∙ e ∙ sym (cond-true _ _ _ (eq-eqb m n a))) (λ (na : m ≡ n → ⊥). sym (cond-false _ _ _ (ne_eqb m n na))) (cases_eq m n))
+with_same f n v e = search rules
 
 module _ (f : Pairs) (count capacity n : ℕ) where
   pub accepts_zero : n ≡ 0 → accepts f count capacity n ≡ false

@@ -1,10 +1,10 @@
 -- A pair that moves from its slot n to an empty slot p: the slot n is emptied first, so that no node
 -- stands twice in between.
-use Rattle.std.proofs.Common.{◌≡◌, ℕ, ◌<◌, ◌≢◌, List, length, get_or, set, sym, refl, ap, ◌∙◌, ⊎_elim, arith, length-set}
+use Rattle.std.proofs.Common.{rules, ◌≡◌, ℕ, ◌<◌, ◌≢◌, List, length, get_or, set, sym, refl, ap, ◌∙◌, ⊎_elim, arith, length-set}
 use Rattle.std.proofs.lemmas.Bool.{cases_eq}
 use Rattle.slots.specs.declared.Slot.{Slot}
 use Rattle.slots.specs.Slots.{blank, node_at, pairs_of, held, Apart}
-use Rattle.slots.proofs.Rows.{node_same, node_other, apart_set, out_apart, pairs_found, pairs_here, pairs_fill, pairs_clear}
+use Rattle.slots.proofs.Rows.{node_other, out_apart, pairs_found, pairs_here, pairs_fill, pairs_clear}
 use Rattle.slots.proofs.Counts.{held_more, held_less}
 
 abbrev pub moved : List Slot → ℕ → ℕ → List Slot
@@ -27,11 +27,7 @@ module _ (xs : List Slot) (n p : ℕ) (n_within : n < length xs) (p_within : p <
   ys_apart = out_apart xs n n_within apart
 
   pub move_apart : Apart (moved xs n p)
-  move_apart = apart_set ys p f p_there ys_apart (λ i ne e pos.
-      ⊎_elim
-      (λ (a : i ≡ n). omega (arith, ap (node_at ys) a, node_same xs n blank n_within))
-      (λ (na : i ≡ n → ⊥). na (apart i n (omega (arith, node_other xs n blank n_within i na), sym (node_other xs n blank n_within i na) ∙ e)))
-      (cases_eq i n))
+  move_apart = search rules
 
   pub move_held : held (moved xs n p) ≡ held xs
   move_held = omega (arith, held_more ys p f p_there ys_hole taken, held_less xs n blank n_within taken refl)

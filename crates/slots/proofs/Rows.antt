@@ -1,5 +1,5 @@
 -- What a row of slots means, before and after one slot is written.
-use Rattle.std.proofs.Common.{◌≡◌, ℕ, zero, suc, ◌<◌, ◌≢◌, ◌⊎◌, List, [], ◌∷◌, length, get_or, set, replicate, None, sym, refl, ap, ◌∙◌, inl, inr, ⊎_elim, arith}
+use Rattle.std.proofs.Common.{rules, ◌≡◌, ℕ, zero, suc, ◌<◌, ◌≢◌, ◌⊎◌, List, [], ◌∷◌, length, get_or, set, replicate, None, sym, refl, ap, ◌∙◌, inl, inr, ⊎_elim, arith}
 use mathlib.Core.Path.{fun_ext}
 use Rattle.std.proofs.lemmas.List.{get_or-set_same, get_or-set_other}
 use Rattle.std.proofs.lemmas.Bool.{cases_eq, cond-true, cond-false, eq-eqb, ne_eqb}
@@ -51,30 +51,14 @@ somewhere (s ∷ ss) n pos =
 
 module _ (xs : List Slot) (p : ℕ) (c : Slot) (within : p < length xs) where
   pub node_same : node_at (set xs p c) p ≡ c.node
-  node_same = ap (λ (s : Slot). s.node) (get_or-set_same xs p c blank within)
+  node_same = search rules
 
   pub node_other : (i : ℕ) → i ≢ p → node_at (set xs p c) i ≡ node_at xs i
-  node_other i ne = ap (λ (s : Slot). s.node) (get_or-set_other xs p i c blank ne)
+  node_other i ne = search rules
 
   -- a node that stands nowhere else is put in
   pub apart_set : Apart xs → ((i : ℕ) → i ≢ p → node_at xs i ≡ c.node → 0 < c.node → ⊥) → Apart (set xs p c)
-  apart_set apart new i j pe =
-      let pos : 0 < node_at (set xs p c) i = pe.0 in
-      let e : node_at (set xs p c) i ≡ node_at (set xs p c) j = pe.1 in
-      ⊎_elim
-      (λ (a : i ≡ p). ⊎_elim (λ (b : j ≡ p). a ∙ sym b)
-      (λ (nb : j ≡ p → ⊥).
-      let here : node_at (set xs p c) i ≡ c.node = ap (node_at (set xs p c)) a ∙ node_same in
-      let there : node_at xs j ≡ c.node = sym (node_other j nb) ∙ sym e ∙ here in
-      absurd (new j nb there (omega arith)))
-      (cases_eq j p))
-      (λ (na : i ≡ p → ⊥). ⊎_elim (λ (b : j ≡ p).
-      let here : node_at (set xs p c) j ≡ c.node = ap (node_at (set xs p c)) b ∙ node_same in
-      let there : node_at xs i ≡ c.node = sym (node_other i na) ∙ e ∙ here in
-      absurd (new i na there (omega arith)))
-      (λ (nb : j ≡ p → ⊥). apart i j (omega (arith, node_other i na), sym (node_other i na) ∙ e ∙ node_other j nb))
-      (cases_eq j p))
-      (cases_eq i p)
+  apart_set apart new i j pe = search rules
 
   module _ (apart : Apart xs) (apart' : Apart (set xs p c)) where
     pub pairs_here : 0 < c.node → pairs_of (set xs p c) c.node ≡ links_of c
@@ -128,7 +112,7 @@ module _ (xs : List Slot) (p : ℕ) (c : Slot) (within : p < length xs) where
 -- a pair is taken out
 module _ (xs : List Slot) (p : ℕ) (within : p < length xs) (apart : Apart xs) where
   pub out_apart : Apart (set xs p blank)
-  out_apart = apart_set xs p blank within apart (λ i ne e pos. omega arith)
+  out_apart = search rules
 
   pub out_pairs : 0 < node_at xs p → (m : ℕ) → pairs_of (set xs p blank) m ≡ with_pair (pairs_of xs) (node_at xs p) None m
   out_pairs taken m =
@@ -139,7 +123,7 @@ module _ (xs : List Slot) (p : ℕ) (within : p < length xs) (apart : Apart xs) 
 
   -- a pair is replaced
   pub renew_apart : (c : Slot) → node_at xs p ≡ c.node → Apart (set xs p c)
-  renew_apart c same = apart_set xs p c within apart (λ i ne e pos. ne (apart i p (omega arith, e ∙ sym same)))
+  renew_apart c same = search rules
 
 -- a row of empty slots
 pub fresh_node : (n i : ℕ) → node_at (replicate n blank) i ≡ 0

@@ -3,17 +3,12 @@ use mathlib.Core.Path.{fun_ext}
 use Rattle.slots.specs.Slots.{blank, held}
 use Rattle.slots.proofs.Rows.{out_pairs}
 use Rattle.slots.proofs.Counts.{held_less}
-use Rattle.robin_hood.proofs.Holes.{hole_start, hole_move, hole_end, hole_never}
+use Rattle.robin_hood.proofs.Holes.{hole_start, hole_move, hole_never}
 use Rattle.robin_hood.proofs.Shifts.{shift_start, shift_move, shift_end}
 use Rattle.robin_hood.proofs.erase.erase.Goals as goal
 
 pub loop-step-init : goal.loop-step-init
 loop-step-init c = (hole_start _ _ (omega arith) c.args.ring.now.spread c.args.ring.now.apart c.requires.within c.requires.some, shift_start _ _ (omega arith) (omega arith))
-
-pub invariant_of-ring : goal.invariant_of-ring
-invariant_of-ring c =
-    let hole = c.loop-step.invariant.0 in
-    record { spread = hole_end hole (omega arith); apart = hole.apart }
 
 pub returns-then-rank-le-AT_HOME : goal.returns-then-rank-le-AT_HOME
 returns-then-rank-le-AT_HOME c =

@@ -1,12 +1,6 @@
 use Rattle.std.proofs.Common.{arith}
-use Rattle.robin_hood.proofs.Walks.{walk_start, walk_on, walk_reaches, walk_stops, walk_absent, walk_never}
+use Rattle.robin_hood.proofs.Walks.{walk_on, walk_reaches, walk_stops, walk_absent, walk_never}
 use Rattle.robin_hood.proofs.find.find.Goals as goal
-
-pub loop-step-init : goal.loop-step-init
-loop-step-init c = walk_start _ _ _ c.home-start.ensures.value (omega arith) c.requires.some
-
-pub returns-then-resident-node : goal.returns-then-resident-node
-returns-then-resident-node c = record { walk = (walk_reaches c.loop-step.invariant (omega arith), c.if-resident-node.true); absent = omega arith }
 
 pub returns-then-rank-step : goal.returns-then-rank-step
 returns-then-rank-step c =

@@ -2,7 +2,7 @@ use Rattle.std.proofs.Common.{◌≡◌, ◌+◌, arith}
 use mathlib.Core.Path.{fun_ext}
 use Rattle.slots.proofs.Carried.{put_apart, put_held, put_pairs}
 use Rattle.robin_hood.specs.Layout.{rests, stays, swaps}
-use Rattle.robin_hood.proofs.Carry.{carry_start, carry_pass, carry_swap, at_within, put_spread, end_spread, carry_never}
+use Rattle.robin_hood.proofs.Carry.{carry_start, carry_pass, carry_swap, at_within, end_spread, carry_never}
 use Rattle.robin_hood.proofs.insert.insert.Goals as goal
 use Rattle.robin_hood.proofs.insert.insert.Goals.{then-rank, else-rank}
 
@@ -15,11 +15,6 @@ pub invariant_of-ring : goal.invariant_of-ring
 invariant_of-ring c =
     let s = c.loop-step.invariant.0 in
     record { spread = end_spread s c.if-resident-eq0.true; apart = put_apart s.carried _ (at_within s) }
-
-pub invariant_of-ring-then-rank : goal.invariant_of-ring-then-rank
-invariant_of-ring-then-rank c =
-    let s = c.loop-step.invariant.0 in
-    record { spread = put_spread s (omega arith); apart = put_apart s.carried _ (at_within s) }
 
 pub returns-then-resident-eq0 : goal.returns-then-resident-eq0
 returns-then-resident-eq0 c =
