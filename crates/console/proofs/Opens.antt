@@ -1,5 +1,5 @@
 -- A new index and a new book, from what making promises; the law over runs on a new book.
-use Rattle.std.proofs.Common.{◌≡◌, ℕ, zero, suc, ◌+◌, ◌-◌, ◌*◌, ◌<◌, ◌≤◌, Bool, true, false, ◌||◌, List, [], ◌∷◌, ◌++◌, min, length, take, drop, is_some, refl, ap, ◌∙◌, subst, arith}
+use Rattle.std.proofs.Common.{◌≡◌, ℕ, zero, suc, ◌+◌, ◌-◌, ◌*◌, ◌<◌, ◌≤◌, true, false, ◌||◌, List, [], ◌∷◌, ◌++◌, min, length, take, drop, is_some, is_none, Option, None, Some, refl, ap, ◌∙◌, subst, arith}
 use Rattle.std.proofs.lemmas.Bool.{or_parts}
 use Rattle.std.proofs.lemmas.List.{drop-take, take-take, take_min, length-take}
 use Rattle.dictionary.specs.Pairs.{Pairs}
@@ -10,7 +10,7 @@ use Rattle.rules.specs.Views.{view_of}
 use Rattle.runs.specs.States.{Laid, visits}
 use Rattle.inside.specs.declared.Inside.{Inside}
 use Rattle.inside.specs.Making.{Bare}
-use Rattle.inside.specs.Whole.{Whole, Unless}
+use Rattle.inside.specs.Whole.{Sound, limit_of}
 use Rattle.inside.specs.Views.{closed_view, seen_as}
 use Rattle.inside.proofs.Parts.{laid}
 use Rattle.book.specs.Books.{BookView, shut}
@@ -20,12 +20,12 @@ use Rattle.saves.specs.declared.season.Outcome.{Outcome}
 use Rattle.saves.specs.Seasons.{Seasoned}
 use Rattle.console.specs.Opening.{Module, given, Opened, NewBook, answered, done, RanNew, SeasonNew}
 
-pub opened_as : (shut : Bool) (w : ℕ) (f₀ : Pairs) (room₀ held₀ tally₀ : ℕ) (f : Pairs) (room tally : ℕ) (i : Inside) →
-    shut ≡ is_some (fitness w 256 room₀ held₀ tally₀) → Bare i → (shut ≡ true → (f ≡ f₀) × (tally ≡ tally₀)) → (shut ≡ false → (i.limit ≡ 256) × (tally ≡ 2 * (w + 1))) →
-    Unless shut (Whole w f room tally i) → Opened w (given f₀ room₀ held₀ tally₀) (seen_as shut w f tally i)
-opened_as true w f₀ room₀ held₀ tally₀ f room tally i e bare kept made so =
+pub opened_as : (w : ℕ) (f₀ : Pairs) (room₀ held₀ tally₀ : ℕ) (f : Pairs) (room tally : ℕ) (o : Option Inside) →
+    is_none o ≡ is_some (fitness w 256 room₀ held₀ tally₀) → Bare o → (is_none o ≡ true → (f ≡ f₀) × (tally ≡ tally₀)) → (is_none o ≡ false → (limit_of o ≡ 256) × (tally ≡ 2 * (w + 1))) →
+    Sound w f room tally o → Opened w (given f₀ room₀ held₀ tally₀) (seen_as w f tally o)
+opened_as w f₀ room₀ held₀ tally₀ f room tally None e bare kept made so =
     record { shut = e; closed = λ _. let k = kept refl in λ j. closed_view w (k.0 j) (k.1 j); fitted = λ z. let y : ◌≡◌ {A = ℕ} 0 1 = cc in absurd (omega arith) }
-opened_as false w f₀ room₀ held₀ tally₀ f room tally i e bare kept made so =
+opened_as w f₀ room₀ held₀ tally₀ f room tally (Some i) e bare kept made so =
     let k = made refl in
     record {
       shut = e;

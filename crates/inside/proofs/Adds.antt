@@ -63,7 +63,7 @@ module _ (w : ℕ) (f : Pairs) (room tally : ℕ) (i : Inside) (big : 8 ≤ w) (
 
   -- ---- held, or full
   pub refused_step : (r : Refusal) (m : ℕ) → no_add i.limit (at k (items_of i.grove.table i.grove.pool n)) (total s) ≡ Some r → m < 2 ^ 64 → m ≡ raised tally fr →
-      Step w i.limit (state_of f tally i) (Add k e.note) [] (record { answer = no_of r fr v; places = [] }) (state_of f m i)
+      Step w i.limit (state_of f tally (Some i)) (Add k e.note) [] (record { answer = no_of r fr v; places = [] }) (state_of f m (Some i))
   unfolding step added
   refused_step r m why b up =
       let is = add_served (rep_of i.grove.table) (items_of i.grove.table i.grove.pool) (tree_of i.grove.table i.grove.pool) (order_of i.grove.table) k n c w i.limit e.note [] in
@@ -117,11 +117,11 @@ module _ (w : ℕ) (f : Pairs) (room tally : ℕ) (i : Inside) (big : 8 ≤ w) (
     }
 
     pub add_step : m < 2 ^ 64 → m ≡ raised (raised tally fr) r.frames →
-        Step w i.limit (state_of f tally i) (Add k e.note) [] (record { answer = record { outcome = Ok e; number = 0; frames = fr + r.frames; visits = v; rebuilding = r.rebuilding }; places = [] }) (state_of g m j)
+        Step w i.limit (state_of f tally (Some i)) (Add k e.note) [] (record { answer = record { outcome = Ok e; number = 0; frames = fr + r.frames; visits = v; rebuilding = r.rebuilding }; places = [] }) (state_of g m (Some j))
     add_step b up =
         let a : Answered = record { answer = record { outcome = Ok e; number = 0; frames = fr + r.frames; visits = v; rebuilding = r.rebuilding }; places = [] } in
         let o : Obeys a (row_of j.grove.table j.grove.pool) (alters (answered e []) fr ch) = record { told = refl; frames = ap (λ x. fr + x) en.frames; rebuilding = en.rebuilding; after = en.row } in
-        step_made w i.limit big (state_of f tally i) (Add k e.note) [] a (state_of g m j) wh.buckets
+        step_made w i.limit big (state_of f tally (Some i)) (Add k e.note) [] a (state_of g m (Some j)) wh.buckets
         (subst (Obeys a (row_of j.grove.table j.grove.pool)) (sym rules) o)
         (record { notes = all_noted; planted = planted j.grove.table j.grove.pool j.grove.forest; laid = laid w g j.grove.table j.grove.pool trie; counts = b; visits = sym way; tally = omega (arith, up); still = λ z. absurd (omega arith) })
 

@@ -2,7 +2,6 @@ pub mod Adds
 pub mod Beside
 pub mod Enter
 pub mod Finds
-pub mod Fresh
 pub mod Lawful
 pub mod Lists
 pub mod Merges
@@ -19,4 +18,3 @@ pub mod Spans
 pub mod Splits
 pub mod Removes
 pub mod Leave
-pub mod Looking

@@ -1,7 +1,6 @@
 -- All entries of an index.
-use Rattle.std.proofs.Common.{◌≡◌, ℕ, ◌^◌, ◌≤◌, Bool, true, false, [], length, sym, ap, ◌∙◌, arith, pow_mono}
+use Rattle.std.proofs.Common.{◌≡◌, ℕ, ◌^◌, ◌≤◌, true, [], length, Some, sym, ap, ◌∙◌, arith, pow_mono}
 use Rattle.std.specs.List.{flat_map}
-use Rattle.std.proofs.lemmas.Bool.{cond-false}
 use Rattle.dictionary.specs.Pairs.{Pairs, among}
 use Rattle.entry.specs.Lists.{between, from}
 use Rattle.buckets.specs.Tables.{rep_of, rest_of, order_of}
@@ -12,26 +11,15 @@ use Rattle.forest.specs.Forests.{items_of, row_of}
 use Rattle.rows.proofs.Places.{row_flat}
 use Rattle.inside.specs.declared.Inside.{Inside}
 use Rattle.inside.specs.Spans.{onward, kept_in}
-use Rattle.inside.specs.Whole.{Whole, Sound, Unless}
+use Rattle.inside.specs.Whole.{Whole}
 use Rattle.inside.proofs.Ranges.{onward_cut}
 
 pub zero_held : (i : Inside) → among 0 (order_of i.grove.table) ≡ true
 zero_held i = ap (among 0) (order_is i.grove.table)
 
--- an index that is not shut is whole
-pub whole_of : (w : ℕ) (f : Pairs) (room tally : ℕ) (i : Inside) → i.shut ≡ false → Sound w f room tally i → Whole w f room tally i
-whole_of w f room tally i s so = opened i.shut s so
-  where
-    opened : (b : Bool) → b ≡ false → Unless b (Whole w f room tally i) → Whole w f room tally i
-    opened true e x = absurd (let z : ◌≡◌ {A = ℕ} 0 1 = cc in omega arith)
-    opened false e x = x
-
-module _ (w : ℕ) (f : Pairs) (room tally : ℕ) (i : Inside) (wide : w ≤ 60) (ready : i.shut ≡ false) (wh : Whole w f room tally i) where
-  pub kept_open : kept_in i ≡ flat (row_of i.grove.table i.grove.pool)
-  kept_open = cond-false i.shut [] (flat (row_of i.grove.table i.grove.pool)) ready
-
+module _ (w : ℕ) (f : Pairs) (room tally : ℕ) (i : Inside) (wide : w ≤ 60) (wh : Whole w f room tally i) where
   -- every key is in the widest span
-  pub all_spanned : between 0 18446744073709551615 (onward i.grove.table i.grove.pool 0) ≡ kept_in i
+  pub all_spanned : between 0 18446744073709551615 (onward i.grove.table i.grove.pool 0) ≡ kept_in (Some i)
   all_spanned =
       let xs = flat (row_of i.grove.table i.grove.pool) in
       let up : 2 ^ w ≤ 2 ^ 60 = pow_mono wide in
@@ -41,7 +29,7 @@ module _ (w : ℕ) (f : Pairs) (room tally : ℕ) (i : Inside) (wide : w ≤ 60)
       ∙ (ap (flat_map (items_of i.grove.table i.grove.pool)) (sym (order_is i.grove.table)) ∙ sym (row_flat (rep_of i.grove.table) (items_of i.grove.table i.grove.pool) (order_of i.grove.table))) in
       ap (between 0 18446744073709551615) is
       ∙ (ap (from 0) (upto_all _ _ 18446744073709551615 xs inner (omega (arith, up)))
-      ∙ (from_all _ _ 0 xs inner (omega arith) ∙ sym kept_open))
+      ∙ (from_all _ _ 0 xs inner (omega arith)))
 
-  pub counted_all : i.count ≡ length (kept_in i)
-  counted_all = wh.counted ∙ (total_flat (row_of i.grove.table i.grove.pool) ∙ ap length (sym kept_open))
+  pub counted_all : i.count ≡ length (kept_in (Some i))
+  counted_all = wh.counted ∙ total_flat (row_of i.grove.table i.grove.pool)

@@ -1,5 +1,5 @@
 -- The state of an index from its parts.
-use Rattle.std.proofs.Common.{◌≡◌, ℕ, ◌^◌, ◌<◌, List, [], ◌∷◌, map, sym, refl}
+use Rattle.std.proofs.Common.{Some, ◌≡◌, ℕ, ◌^◌, ◌<◌, List, [], ◌∷◌, map, sym, refl}
 use Rattle.std.specs.List.{AllByRecursion}
 use Rattle.dictionary.specs.Pairs.{Pairs}
 use Rattle.links.specs.Orders.{holder, ZeroFirst}
@@ -36,6 +36,6 @@ zero_first t e = e
 pub held_in : (w : ℕ) (f : Pairs) (t : Table) → TrieSound w f t → (k : ℕ) → InRow (rep_of t) (order_of t) k (holder (rep_of t) (order_of t) k)
 held_in w f t so k = in_row (rep_of t) (order_of t) k so.ordered.rises (zero_first t so.first)
 
-pub sound_state : (w : ℕ) (f : Pairs) (room tally : ℕ) (i : Inside) → tally < 2 ^ 64 → Whole w f room tally i → StateSound w i.limit (state_of f tally i)
+pub sound_state : (w : ℕ) (f : Pairs) (room tally : ℕ) (i : Inside) → tally < 2 ^ 64 → Whole w f room tally i → StateSound w i.limit (state_of f tally (Some i))
 sound_state w f room tally i h wh =
     record { buckets = wh.buckets; notes = wh.notes; planted = planted i.grove.table i.grove.pool i.grove.forest; laid = laid w f i.grove.table i.grove.pool wh.trie; counts = h }

@@ -42,14 +42,14 @@ module _ (w : ℕ) (f : Pairs) (room tally : ℕ) (i : Inside) (big : 8 ≤ w) (
   pub quiet_step : (c : Call) (ps : List Entry) (a : Answered) (n : ℕ) → n < 2 ^ 64 → n ≡ raised tally a.answer.frames →
       Obeys a (row_of i.grove.table i.grove.pool) (step w i.limit c ps (row_of i.grove.table i.grove.pool)) →
       a.answer.visits ≡ visits w c (row_of i.grove.table i.grove.pool) (grove_of i.grove.table i.grove.pool) →
-      Step w i.limit (state_of f tally i) c ps a (state_of f n i)
+      Step w i.limit (state_of f tally (Some i)) c ps a (state_of f n (Some i))
   quiet_step c ps a n h up o v =
-      step_made w i.limit big (state_of f tally i) c ps a (state_of f n i) wh.buckets o
+      step_made w i.limit big (state_of f tally (Some i)) c ps a (state_of f n (Some i)) wh.buckets o
       (record { notes = wh.notes; planted = planted i.grove.table i.grove.pool i.grove.forest; laid = laid w f i.grove.table i.grove.pool wh.trie; counts = h; visits = v; tally = up; still = λ _. (refl, refl) })
 
   -- a call that its keys bar
   pub barred_step : (c : Call) (ps : List Entry) (r : Refusal) → misfit w c ≡ Some r → tally < 2 ^ 64 →
-      Step w i.limit (state_of f tally i) c ps (record { answer = no_of r 0 0; places = ps }) (state_of f tally i)
+      Step w i.limit (state_of f tally (Some i)) c ps (record { answer = no_of r 0 0; places = ps }) (state_of f tally (Some i))
   unfolding step visits
   barred_step c ps r e h =
       quiet_step c ps (record { answer = no_of r 0 0; places = ps }) tally h (omega arith)
@@ -77,7 +77,7 @@ module _ (w : ℕ) (f : Pairs) (room tally : ℕ) (i : Inside) (big : 8 ≤ w) (
       let m = holder (rep_of i.grove.table) (order_of i.grove.table) k in
       let fr = searching w (map (rep_of i.grove.table) (order_of i.grove.table)) k in
       n < 2 ^ 64 → n ≡ raised tally fr →
-      Step w i.limit (state_of f tally i) (Find k) ps (record { answer = reply_of (foremost (at k (items_of i.grove.table i.grove.pool m))) Absent fr (seen k (tree_of i.grove.table i.grove.pool m)); places = ps }) (state_of f n i)
+      Step w i.limit (state_of f tally (Some i)) (Find k) ps (record { answer = reply_of (foremost (at k (items_of i.grove.table i.grove.pool m))) Absent fr (seen k (tree_of i.grove.table i.grove.pool m)); places = ps }) (state_of f n (Some i))
   unfolding step visits
   find_step k ps n h b up =
       let m = holder (rep_of i.grove.table) (order_of i.grove.table) k in
@@ -110,7 +110,7 @@ module _ (w : ℕ) (f : Pairs) (room tally : ℕ) (i : Inside) (big : 8 ≤ w) (
       let fr = searching w (map (rep_of i.grove.table) (order_of i.grove.table)) k in
       let v = seen k (tree_of i.grove.table i.grove.pool m) + cond (filled (from k (items m))) 0 (low_way (ahead leaf (tree_of i.grove.table i.grove.pool) c.post)) in
       n < 2 ^ 64 → n ≡ raised tally fr →
-      Step w i.limit (state_of f tally i) (Next k) ps (record { answer = reply_of (foremost (from k (items m) ++ ahead [] items c.post)) Nothing fr v; places = ps }) (state_of f n i)
+      Step w i.limit (state_of f tally (Some i)) (Next k) ps (record { answer = reply_of (foremost (from k (items m) ++ ahead [] items c.post)) Nothing fr v; places = ps }) (state_of f n (Some i))
   unfolding step visits
   next_step k ps n m c h b up =
       let items = items_of i.grove.table i.grove.pool in
@@ -132,7 +132,7 @@ module _ (w : ℕ) (f : Pairs) (room tally : ℕ) (i : Inside) (big : 8 ≤ w) (
       let fr = searching w (map (rep_of i.grove.table) (order_of i.grove.table)) k in
       let v = seen k (tree_of i.grove.table i.grove.pool m) + cond (filled (upto k (items m))) 0 (high_way (back leaf (tree_of i.grove.table i.grove.pool) c.pre)) in
       n < 2 ^ 64 → n ≡ raised tally fr →
-      Step w i.limit (state_of f tally i) (Last k) ps (record { answer = reply_of (hindmost (back [] items c.pre ++ upto k (items m))) Nothing fr v; places = ps }) (state_of f n i)
+      Step w i.limit (state_of f tally (Some i)) (Last k) ps (record { answer = reply_of (hindmost (back [] items c.pre ++ upto k (items m))) Nothing fr v; places = ps }) (state_of f n (Some i))
   unfolding step visits
   last_step k ps n m c h b up =
       let items = items_of i.grove.table i.grove.pool in

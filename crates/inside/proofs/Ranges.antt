@@ -1,5 +1,5 @@
 -- A range on an index that is not shut: refused for want of room, or written.
-use Rattle.std.proofs.Common.{◌≡◌, ℕ, ◌^◌, ◌<◌, ◌≤◌, Bool, true, false, eqb, leb, List, [], ◌∷◌, ◌++◌, map, length, None, Ok, sym, refl, ap, ◌∙◌, subst, inl, inr, arith, length-append}
+use Rattle.std.proofs.Common.{Some, ◌≡◌, ℕ, ◌^◌, ◌<◌, ◌≤◌, eqb, leb, List, [], ◌∷◌, ◌++◌, map, length, None, Ok, sym, refl, ap, ◌∙◌, subst, inl, inr, arith, length-append}
 use Rattle.std.specs.List.{flat_map}
 use Rattle.std.proofs.lemmas.Bool.{cases_Bool, lt-ltb, le-ltb}
 use Rattle.dictionary.specs.Pairs.{Pairs, raised}
@@ -24,7 +24,6 @@ use Rattle.runs.specs.States.{Answered, Step, told_by, visits}
 use Rattle.runs.proofs.Made.{Obeys, step_made}
 use Rattle.inside.specs.declared.Inside.{Inside}
 use Rattle.ordered.specs.Answers.{no_of}
-use Rattle.inside.specs.Answers.{bars}
 use Rattle.inside.specs.Spans.{since, onward, over}
 use Rattle.inside.specs.Whole.{Whole, state_of}
 use Rattle.inside.proofs.Parts.{planted, laid}
@@ -76,7 +75,7 @@ module _ (w : ℕ) (f : Pairs) (room tally : ℕ) (i : Inside) (big : 8 ≤ w) (
       let ys = between a b (onward i.grove.table i.grove.pool m) in
       let fr = searching w (map (rep_of i.grove.table) (order_of i.grove.table)) a in
       told_by x ≡ writes (no_range (length ys) (length ps)) ys ps → x.answer.frames ≡ fr → x.answer.visits ≡ 0 → x.answer.rebuilding ≡ Unchanged →
-      n < 2 ^ 64 → n ≡ raised tally x.answer.frames → Step w i.limit (state_of f tally i) (Range a b) ps x (state_of f n i)
+      n < 2 ^ 64 → n ≡ raised tally x.answer.frames → Step w i.limit (state_of f tally (Some i)) (Range a b) ps x (state_of f n (Some i))
   unfolding step visits
   range_step a b ps n m c x none told frames seen still h up =
       let items = items_of i.grove.table i.grove.pool in
@@ -86,10 +85,5 @@ module _ (w : ℕ) (f : Pairs) (room tally : ℕ) (i : Inside) (big : 8 ≤ w) (
       let o : Obeys x (row_of i.grove.table i.grove.pool) (step w i.limit (Range a b) ps (row_of i.grove.table i.grove.pool)) =
       rw (none, is) (record { told = told_all; frames = frames; rebuilding = still; after = refl }) in
       let v : x.answer.visits ≡ visits w (Range a b) (row_of i.grove.table i.grove.pool) (grove_of i.grove.table i.grove.pool) = seen ∙ sym (rw none refl) in
-      step_made w i.limit big (state_of f tally i) (Range a b) ps x (state_of f n i) wh.buckets o
+      step_made w i.limit big (state_of f tally (Some i)) (Range a b) ps x (state_of f n (Some i)) wh.buckets o
       (record { notes = wh.notes; planted = planted i.grove.table i.grove.pool i.grove.forest; laid = laid w f i.grove.table i.grove.pool wh.trie; counts = h; visits = v; tally = up; still = λ _. (refl, refl) })
-
--- keys that pass
-pub both_fit : (shut : Bool) (w a b : ℕ) → None ≡ bars shut w a b → misfit w (Range a b) ≡ None
-both_fit true w a b e = absurd (let z : ◌≡◌ {A = ℕ} 0 1 = cc in omega arith)
-both_fit false w a b e = sym e

@@ -68,7 +68,7 @@ module _ (w : ℕ) (f : Pairs) (room tally : ℕ) (i : Inside) (big : 8 ≤ w) (
 
   -- ---- absent
   pub absent_step : (m : ℕ) → xs ≡ [] → m < 2 ^ 64 → m ≡ raised tally fr →
-      Step w i.limit (state_of f tally i) (Remove k) [] (record { answer = no_of Absent fr v; places = [] }) (state_of f m i)
+      Step w i.limit (state_of f tally (Some i)) (Remove k) [] (record { answer = no_of Absent fr v; places = [] }) (state_of f m (Some i))
   unfolding step removed
   absent_step m none b up =
       let is = remove_served (rep_of i.grove.table) (items_of i.grove.table i.grove.pool) (tree_of i.grove.table i.grove.pool) (order_of i.grove.table) k n c w i.limit [] in
@@ -139,11 +139,11 @@ module _ (w : ℕ) (f : Pairs) (room tally : ℕ) (i : Inside) (big : 8 ≤ w) (
       }
 
       pub remove_step : m < 2 ^ 64 → m ≡ raised (raised tally fr) r.frames →
-          Step w i.limit (state_of f tally i) (Remove k) [] (record { answer = record { outcome = Ok e; number = 0; frames = fr + r.frames; visits = v; rebuilding = r.rebuilding }; places = [] }) (state_of g m j)
+          Step w i.limit (state_of f tally (Some i)) (Remove k) [] (record { answer = record { outcome = Ok e; number = 0; frames = fr + r.frames; visits = v; rebuilding = r.rebuilding }; places = [] }) (state_of g m (Some j))
       remove_step b up =
           let a : Answered = record { answer = record { outcome = Ok e; number = 0; frames = fr + r.frames; visits = v; rebuilding = r.rebuilding }; places = [] } in
           let o : Obeys a (row_of j.grove.table j.grove.pool) (alters (answered e []) fr ch) = record { told = refl; frames = ap (λ x. fr + x) le.frames; rebuilding = le.rebuilding; after = le.row } in
-          step_made w i.limit big (state_of f tally i) (Remove k) [] a (state_of g m j) wh.buckets
+          step_made w i.limit big (state_of f tally (Some i)) (Remove k) [] a (state_of g m (Some j)) wh.buckets
           (subst (Obeys a (row_of j.grove.table j.grove.pool)) (sym rules) o)
           (record { notes = all_noted; planted = planted j.grove.table j.grove.pool j.grove.forest; laid = laid w g j.grove.table j.grove.pool trie; counts = b; visits = sym way; tally = omega (arith, up); still = λ z. absurd (omega arith) })
 

@@ -1,5 +1,5 @@
 -- A run, call by call.
-use Rattle.std.proofs.Common.{◌≡◌, ℕ, ◌+◌, ◌^◌, ◌<◌, ◌≤◌, Bool, true, false, List, [], ◌∷◌, ◌++◌, map, length, get_or, take, drop, set, sym, refl, ap, ◌∙◌, subst, arith}
+use Rattle.std.proofs.Common.{◌≡◌, ℕ, ◌+◌, ◌^◌, ◌<◌, ◌≤◌, Bool, true, false, List, [], ◌∷◌, ◌++◌, map, length, get_or, take, drop, set, is_none, Option, None, Some, sym, refl, ap, ◌∙◌, subst, arith}
 use mathlib.Core.List.{map-append}
 use Rattle.std.proofs.lemmas.List.{take_more, take_more_set, drop-set-lt, drop-drop}
 use Rattle.dictionary.specs.Pairs.{Pairs}
@@ -14,7 +14,7 @@ use Rattle.runs.proofs.Chains.{run_more}
 use Rattle.runs.proofs.Laws.{general}
 use Rattle.inside.specs.declared.Inside.{Inside}
 use Rattle.ordered.specs.Answers.{no_of}
-use Rattle.inside.specs.Whole.{Whole, Does, Unless, state_of}
+use Rattle.inside.specs.Whole.{Sound, Does, limit_of, state_of}
 use Rattle.inside.specs.Runs.{Handed, Went, Ran}
 use Rattle.inside.proofs.Parts.{sound_state}
 
@@ -54,46 +54,46 @@ went_more false w limit σ τ σ' ps qs qs' cs rs c a h d =
     }
 
 -- ---- between two calls
-pub record Running (w : ℕ) (cs : List Call) (old : List Answer) (ps : List Entry) (f₀ : Pairs) (room₀ tally₀ : ℕ) (i₀ : Inside) (n : ℕ) (rs : List Answer) (qs : List Entry) (f : Pairs) (room' tally : ℕ) (i : Inside) : Type 0 where
-  pub limit : i.limit ≡ i₀.limit
-  pub shut : i.shut ≡ i₀.shut
+pub record Running (w : ℕ) (cs : List Call) (old : List Answer) (ps : List Entry) (f₀ : Pairs) (room₀ tally₀ : ℕ) (o₀ : Option Inside) (n : ℕ) (rs : List Answer) (qs : List Entry) (f : Pairs) (room' tally : ℕ) (o : Option Inside) : Type 0 where
+  pub limit : limit_of o ≡ limit_of o₀
+  pub shut : is_none o ≡ is_none o₀
   pub room : room' ≡ room₀
   pub rest : drop n rs ≡ drop n old
-  pub went : Went i₀.shut w i₀.limit (state_of f₀ tally₀ i₀) ps (take n cs) (take n rs) (state_of f tally i) qs
+  pub went : Went (is_none o₀) w (limit_of o₀) (state_of f₀ tally₀ o₀) ps (take n cs) (take n rs) (state_of f tally o) qs
 
-module _ (w : ℕ) (cs : List Call) (old : List Answer) (ps : List Entry) (f₀ : Pairs) (room₀ tally₀ : ℕ) (i₀ : Inside) where
-  pub running : Running w cs old ps f₀ room₀ tally₀ i₀ 0 old ps f₀ room₀ tally₀ i₀
-  running = record { limit = refl; shut = refl; room = refl; rest = refl; went = went_none i₀.shut w i₀.limit (state_of f₀ tally₀ i₀) ps }
+module _ (w : ℕ) (cs : List Call) (old : List Answer) (ps : List Entry) (f₀ : Pairs) (room₀ tally₀ : ℕ) (o₀ : Option Inside) where
+  pub running : Running w cs old ps f₀ room₀ tally₀ o₀ 0 old ps f₀ room₀ tally₀ o₀
+  running = record { limit = refl; shut = refl; room = refl; rest = refl; went = went_none (is_none o₀) w (limit_of o₀) (state_of f₀ tally₀ o₀) ps }
 
-  module _ (n : ℕ) (rs : List Answer) (qs : List Entry) (f : Pairs) (room tally : ℕ) (i : Inside) (r : Running w cs old ps f₀ room₀ tally₀ i₀ n rs qs f room tally i) where
+  module _ (n : ℕ) (rs : List Answer) (qs : List Entry) (f : Pairs) (room tally : ℕ) (o : Option Inside) (r : Running w cs old ps f₀ room₀ tally₀ o₀ n rs qs f room tally o) where
     rest_more : (a : Answer) → drop (n + 1) (set rs n a) ≡ drop (n + 1) old
     rest_more a = drop-set-lt (n + 1) rs n a (omega arith) ∙ (sym (drop-drop 1 n rs) ∙ (ap (drop 1) r.rest ∙ drop-drop 1 n old))
 
-    pub runs_on : (d : Call) (a : Answer) (qs' : List Entry) (f' : Pairs) (room' tally' : ℕ) (i' : Inside) →
+    pub runs_on : (d : Call) (a : Answer) (qs' : List Entry) (f' : Pairs) (room' tally' : ℕ) (o' : Option Inside) →
         n < length cs → n < length rs →
-        i'.limit ≡ i.limit → i'.shut ≡ i.shut → room' ≡ room →
-        Does i.shut w i.limit (state_of f tally i) (get_or cs n d) qs (with_places a qs') (state_of f' tally' i') →
-        Running w cs old ps f₀ room₀ tally₀ i₀ (n + 1) (set rs n a) qs' f' room' tally' i'
-    runs_on d a qs' f' room' tally' i' h k l s o does =
+        limit_of o' ≡ limit_of o → is_none o' ≡ is_none o → room' ≡ room →
+        Does (is_none o) w (limit_of o) (state_of f tally o) (get_or cs n d) qs (with_places a qs') (state_of f' tally' o') →
+        Running w cs old ps f₀ room₀ tally₀ o₀ (n + 1) (set rs n a) qs' f' room' tally' o'
+    runs_on d a qs' f' room' tally' o' h k l s same does =
         let c = get_or cs n d in
-        let σ = state_of f₀ tally₀ i₀ in
-        let one : Does i₀.shut w i₀.limit (state_of f tally i) c qs (with_places a qs') (state_of f' tally' i') =
-        subst (λ x. Does x w i₀.limit (state_of f tally i) c qs (with_places a qs') (state_of f' tally' i')) r.shut
-        (subst (λ x. Does i.shut w x (state_of f tally i) c qs (with_places a qs') (state_of f' tally' i')) r.limit does) in
-        let more = went_more i₀.shut w i₀.limit σ (state_of f tally i) (state_of f' tally' i') ps qs qs' (take n cs) (take n rs) c a r.went one in
+        let σ = state_of f₀ tally₀ o₀ in
+        let one : Does (is_none o₀) w (limit_of o₀) (state_of f tally o) c qs (with_places a qs') (state_of f' tally' o') =
+        subst (λ x. Does x w (limit_of o₀) (state_of f tally o) c qs (with_places a qs') (state_of f' tally' o')) r.shut
+        (subst (λ x. Does (is_none o) w x (state_of f tally o) c qs (with_places a qs') (state_of f' tally' o')) r.limit does) in
+        let more = went_more (is_none o₀) w (limit_of o₀) σ (state_of f tally o) (state_of f' tally' o') ps qs qs' (take n cs) (take n rs) c a r.went one in
         record {
           limit = l ∙ r.limit;
           shut = s ∙ r.shut;
-          room = o ∙ r.room;
+          room = same ∙ r.room;
           rest = rest_more a;
           went =
-              subst (λ x. Went i₀.shut w i₀.limit σ ps x (take (n + 1) (set rs n a)) (state_of f' tally' i') qs') (sym (take_more cs n d h))
-              (subst (λ x. Went i₀.shut w i₀.limit σ ps (take n cs ++ c ∷ []) x (state_of f' tally' i') qs') (sym (take_more_set rs n a k)) more);
+              subst (λ x. Went (is_none o₀) w (limit_of o₀) σ ps x (take (n + 1) (set rs n a)) (state_of f' tally' o') qs') (sym (take_more cs n d h))
+              (subst (λ x. Went (is_none o₀) w (limit_of o₀) σ ps (take n cs ++ c ∷ []) x (state_of f' tally' o') qs') (sym (take_more_set rs n a k)) more);
         }
 
 -- ---- at the end
-pub ran_of : (shut : Bool) (w : ℕ) (f : Pairs) (room tally : ℕ) (i : Inside) → 8 ≤ w → w ≤ 60 → tally < 2 ^ 64 → Unless shut (Whole w f room tally i) →
+pub ran_of : (w : ℕ) (f : Pairs) (room tally : ℕ) (o : Option Inside) → 8 ≤ w → w ≤ 60 → tally < 2 ^ 64 → Sound w f room tally o →
     (ps : List Entry) (cs : List Call) (rs : List Answer) (σ' : State) (qs : List Entry) →
-    Went shut w i.limit (state_of f tally i) ps cs rs σ' qs → Ran shut w i.limit (state_of f tally i) ps cs rs σ' qs
-ran_of true w f room tally i big small h so ps cs rs σ' qs went = went
-ran_of false w f room tally i big small h so ps cs rs σ' qs went = record { chain = went; general = general big small went.run (sound_state w f room tally i h so) }
+    Went (is_none o) w (limit_of o) (state_of f tally o) ps cs rs σ' qs → Ran (is_none o) w (limit_of o) (state_of f tally o) ps cs rs σ' qs
+ran_of w f room tally None big small h so ps cs rs σ' qs went = went
+ran_of w f room tally (Some i) big small h so ps cs rs σ' qs went = record { chain = went; general = general big small went.run (sound_state w f room tally i h so) }

@@ -2,7 +2,7 @@
 --
 --   lawful_as    an index gives a lawful view
 --   stepped_as   a call that does what the index promises is a step of views
-use Rattle.std.proofs.Common.{◌≡◌, ℕ, ◌*◌, ◌^◌, ◌<◌, ◌≤◌, Bool, true, false, leb, List, sym, refl, ap, ◌∙◌, subst, arith}
+use Rattle.std.proofs.Common.{◌≡◌, ℕ, ◌*◌, ◌^◌, ◌<◌, ◌≤◌, true, leb, List, is_none, Option, None, Some, sym, refl, ap, ◌∙◌, subst, arith}
 use Rattle.dictionary.specs.Pairs.{Pairs}
 use Rattle.key.specs.Widths.{half}
 use Rattle.entry.specs.declared.Entry.{Entry}
@@ -22,7 +22,7 @@ use Rattle.forest.specs.Forests.{row_of, grove_of}
 use Rattle.runs.specs.States.{State, Answered, Step, visits}
 use Rattle.runs.proofs.Visits.{visits_most}
 use Rattle.inside.specs.declared.Inside.{Inside}
-use Rattle.inside.specs.Whole.{Whole, Unless, Does, state_of}
+use Rattle.inside.specs.Whole.{Whole, Sound, Does, limit_of, state_of}
 use Rattle.inside.specs.Views.{closed_view, open_view, seen_as}
 use Rattle.inside.proofs.Parts.{sound_state}
 
@@ -32,8 +32,8 @@ unfolding highest
 at_most_ten n = kept_short (λ x. leb x n) table
 
 -- ---- what always holds
-pub lawful_as : (shut : Bool) (w : ℕ) (f : Pairs) (room tally : ℕ) (i : Inside) → tally < 2 ^ 64 → Unless shut (Whole w f room tally i) → Lawful w (seen_as shut w f tally i)
-lawful_as true w f room tally i h so = record {
+pub lawful_as : (w : ℕ) (f : Pairs) (room tally : ℕ) (o : Option Inside) → tally < 2 ^ 64 → Sound w f room tally o → Lawful w (seen_as w f tally o)
+lawful_as w f room tally None h so = record {
   rising = tt;
   keys = tt;
   notes = tt;
@@ -42,15 +42,15 @@ lawful_as true w f room tally i h so = record {
   counts = h;
   wide = refl;
 }
-lawful_as false w f room tally i h so =
+lawful_as w f room tally (Some i) h so =
     view_lawful w i.limit (row_of i.grove.table i.grove.pool) so.buckets tally f (λ c. visits w c (row_of i.grove.table i.grove.pool) (grove_of i.grove.table i.grove.pool)) h so.small so.notes
 
 -- ---- a call on a shut index
-closed_step : (w : ℕ) (f f' : Pairs) (tally tally' : ℕ) (i i' : Inside) (c : Call) (ps : List Entry) (r : Answer) (qs : List Entry) → tally < 2 ^ 64 →
-    Does true w i.limit (state_of f tally i) c ps (record { answer = r; places = qs }) (state_of f' tally' i') →
+closed_step : (w : ℕ) (f f' : Pairs) (tally tally' : ℕ) (c : Call) (ps : List Entry) (r : Answer) (qs : List Entry) → tally < 2 ^ 64 →
+    Does true w 0 (state_of f tally None) c ps (record { answer = r; places = qs }) (state_of f' tally' None) →
     Stepped (closed_view w f tally) c ps r qs (closed_view w f' tally')
 unfolding answers
-closed_step w f f' tally tally' i i' c ps r qs h d =
+closed_step w f f' tally tally' c ps r qs h d =
     let same : tally' ≡ tally = ap (λ (σ : State). σ.tally) d.1 in
     let none : r.frames ≡ 0 = ap (λ (a : Answered). a.answer.frames) d.0 in
     let unseen : r.visits ≡ 0 = ap (λ (a : Answered). a.answer.visits) d.0 in
@@ -75,7 +75,7 @@ closed_step w f f' tally tally' i i' c ps r qs h d =
 -- ---- a call on an index that is not shut
 module _ (w : ℕ) (big : 8 ≤ w) (small : w ≤ 60) (f : Pairs) (room tally : ℕ) (i : Inside) (h : tally < 2 ^ 64) (wh : Whole w f room tally i)
     (c : Call) (ps : List Entry) (r : Answer) (qs : List Entry) (f' : Pairs) (tally' : ℕ) (i' : Inside)
-    (st : Step w i.limit (state_of f tally i) c ps (record { answer = r; places = qs }) (state_of f' tally' i')) where
+    (st : Step w i.limit (state_of f tally (Some i)) c ps (record { answer = r; places = qs }) (state_of f' tally' (Some i'))) where
   abbrev s : List Bucket
   s = row_of i.grove.table i.grove.pool
 
@@ -98,7 +98,7 @@ module _ (w : ℕ) (big : 8 ≤ w) (small : w ≤ 60) (f : Pairs) (room tally : 
   }
 
   few_visits : visits w c s (grove_of i.grove.table i.grove.pool) ≤ 20
-  few_visits = omega (arith, visits_most w i.limit big small (state_of f tally i) (sound_state w f room tally i h wh) c, at_most_ten (5 * half w))
+  few_visits = omega (arith, visits_most w i.limit big small (state_of f tally (Some i)) (sound_state w f room tally i h wh) c, at_most_ten (5 * half w))
 
   quiet : changed c r.outcome ≡ 0 → (f' ≡ f) × (seen_on s' (grove_of i'.grove.table i'.grove.pool) ≡ seen_on s (grove_of i.grove.table i.grove.pool))
   quiet z =
@@ -115,11 +115,11 @@ module _ (w : ℕ) (big : 8 ≤ w) (small : w ≤ 60) (f : Pairs) (room tally : 
       let limited = subst (λ x. Stepped v c ps r (step w i.limit c ps s).reply.told.places (view_of w x tally' f' vis s')) (sym l) moved in
       subst (λ x. Stepped v c ps r x (open_view w f' tally' i')) (sym (ap (λ (t : Told). t.places) told_so)) limited
 
-pub stepped_as : (shut shut' : Bool) (w : ℕ) → 8 ≤ w → w ≤ 60 → (f : Pairs) (room tally : ℕ) (i : Inside) → tally < 2 ^ 64 → Unless shut (Whole w f room tally i) →
-    (c : Call) (ps : List Entry) (r : Answer) (qs : List Entry) (f' : Pairs) (tally' : ℕ) (i' : Inside) → shut' ≡ shut → i'.limit ≡ i.limit →
-    Does shut w i.limit (state_of f tally i) c ps (record { answer = r; places = qs }) (state_of f' tally' i') →
-    Stepped (seen_as shut w f tally i) c ps r qs (seen_as shut' w f' tally' i')
-stepped_as true true w big small f room tally i h so c ps r qs f' tally' i' e l d = closed_step w f f' tally tally' i i' c ps r qs h d
-stepped_as true false w big small f room tally i h so c ps r qs f' tally' i' e l d = absurd (let z : ◌≡◌ {A = ℕ} 0 1 = cc in omega arith)
-stepped_as false true w big small f room tally i h so c ps r qs f' tally' i' e l d = absurd (let z : ◌≡◌ {A = ℕ} 0 1 = cc in omega arith)
-stepped_as false false w big small f room tally i h so c ps r qs f' tally' i' e l d = open_step w big small f room tally i h so c ps r qs f' tally' i' d l
+pub stepped_as : (w : ℕ) → 8 ≤ w → w ≤ 60 → (f : Pairs) (room tally : ℕ) (o : Option Inside) → tally < 2 ^ 64 → Sound w f room tally o →
+    (c : Call) (ps : List Entry) (r : Answer) (qs : List Entry) (f' : Pairs) (tally' : ℕ) (o' : Option Inside) → is_none o' ≡ is_none o → limit_of o' ≡ limit_of o →
+    Does (is_none o) w (limit_of o) (state_of f tally o) c ps (record { answer = r; places = qs }) (state_of f' tally' o') →
+    Stepped (seen_as w f tally o) c ps r qs (seen_as w f' tally' o')
+stepped_as w big small f room tally None h so c ps r qs f' tally' None e l d = closed_step w f f' tally tally' c ps r qs h d
+stepped_as w big small f room tally None h so c ps r qs f' tally' (Some i) e l d = absurd (let z : ◌≡◌ {A = ℕ} 0 1 = cc in omega arith)
+stepped_as w big small f room tally (Some i) h so c ps r qs f' tally' None e l d = absurd (let z : ◌≡◌ {A = ℕ} 0 1 = cc in omega arith)
+stepped_as w big small f room tally (Some i) h so c ps r qs f' tally' (Some j) e l d = open_step w big small f room tally i h so c ps r qs f' tally' j d l

@@ -1,4 +1,3 @@
-pub mod Answers
 pub mod Changing
 pub mod Leaving
 pub mod Making

@@ -3,8 +3,8 @@
 --   since n order   the order from the number n on
 --   onward t p n    the entries of the buckets from number n on
 --   over ys ps      places with ys written from the first on
---   kept_in i       the entries of an index: none where it is shut
-use Rattle.std.specs.Prelude.{ℕ, cond, List, [], ◌∷◌, ◌++◌, length, drop, ◌==◌}
+--   kept_in o       the entries of an index: none where it is shut
+use Rattle.std.specs.Prelude.{ℕ, cond, List, [], ◌∷◌, ◌++◌, length, drop, ◌==◌, Option, None, Some}
 use Rattle.std.specs.List.{flat_map}
 use Rattle.entry.specs.declared.Entry.{Entry}
 use Rattle.avl.specs.declared.pool.Pool.{Pool}
@@ -24,5 +24,6 @@ onward t p n = flat_map (items_of t p) (since n (order_of t))
 abbrev pub over : List Entry → List Entry → List Entry
 over ys ps = ys ++ drop (length ys) ps
 
-abbrev pub kept_in : Inside → List Entry
-kept_in i = cond i.shut [] (flat (row_of i.grove.table i.grove.pool))
+abbrev pub kept_in : Option Inside → List Entry
+kept_in None = []
+kept_in (Some i) = flat (row_of i.grove.table i.grove.pool)

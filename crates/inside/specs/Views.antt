@@ -3,7 +3,7 @@
 --   closed_view   a shut index: no entry may stand, no call takes a frame, and its dictionary is as it was
 --   open_view     one that is not shut: its buckets by the rules, and the visits on its trees
 --   seen_as       either
-use Rattle.std.specs.Prelude.{ℕ, Bool, true, false, []}
+use Rattle.std.specs.Prelude.{ℕ, true, [], Option, None, Some}
 use Rattle.dictionary.specs.Pairs.{Pairs}
 use Rattle.ordered.specs.declared.calls.Rebuilding.TheVariants.{Unchanged}
 use Rattle.ordered.specs.Meaning.{View}
@@ -27,6 +27,6 @@ closed_view w f tally = record {
 abbrev pub open_view : ℕ → Pairs → ℕ → Inside → View
 open_view w f tally i = view_of w i.limit tally f (λ c. visits w c (row_of i.grove.table i.grove.pool) (grove_of i.grove.table i.grove.pool)) (row_of i.grove.table i.grove.pool)
 
-abbrev pub seen_as : Bool → ℕ → Pairs → ℕ → Inside → View
-seen_as true w f tally i = closed_view w f tally
-seen_as false w f tally i = open_view w f tally i
+abbrev pub seen_as : ℕ → Pairs → ℕ → Option Inside → View
+seen_as w f tally None = closed_view w f tally
+seen_as w f tally (Some i) = open_view w f tally i

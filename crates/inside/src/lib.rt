@@ -5,14 +5,13 @@
 use forest::Grove;
 use ordered::Rebuilding;
 
-// The buckets with their trees, how many entries may stand and how many do, and whether the index is
-// shut. A shut index has no entry and lets its dictionary be.
+// The buckets with their trees, how many entries may stand and how many do. A shut index has none of
+// these: it has no entry and lets its dictionary be.
 #[derive(Drop)]
 pub struct Inside {
     pub grove: Grove,
     pub limit: u16,
     pub count: u16,
-    pub shut: bool,
 }
 
 // What a change did to the buckets besides, and the frames that it took.

@@ -35,7 +35,7 @@ pub fn enter<K: Key, D: Dictionary>(
     ensures few { result.frames ≤ 2 * (K.Key.width + 1) }
     ensures tally { D.Dictionary.frames d.new ≡ raised (D.Dictionary.frames d.old) result.frames }
     ensures room { D.Dictionary.room d.new ≡ D.Dictionary.room d.old }
-    ensures rest { (inside.new.limit ≡ inside.old.limit) × (inside.new.count ≡ inside.old.count + 1) × (inside.new.shut ≡ inside.old.shut) }
+    ensures rest { (inside.new.limit ≡ inside.old.limit) × (inside.new.count ≡ inside.old.count + 1) }
 {
     inside.grove.grow(number, new);
     inside.count += 1;

@@ -28,7 +28,7 @@ fn mend<K: Key, D: Dictionary>(d: &mut D, inside: &mut Inside, left: u16) -> Reb
     ensures mended { (pre : List ℕ) (other : ℕ) (post : List ℕ) → order_of inside.old.grove.table ≡ pre ++ left ∷ other ∷ post → Did result (row_of inside.new.grove.table inside.new.grove.pool) (mended K.Key.width (length pre) (row_of inside.old.grove.table inside.old.grove.pool)) }
     ensures tally { D.Dictionary.frames d.new ≡ raised (D.Dictionary.frames d.old) result.frames }
     ensures room { D.Dictionary.room d.new ≡ D.Dictionary.room d.old }
-    ensures rest { (inside.new.limit ≡ inside.old.limit) × (inside.new.count ≡ inside.old.count) × (inside.new.shut ≡ inside.old.shut) }
+    ensures rest { (inside.new.limit ≡ inside.old.limit) × (inside.new.count ≡ inside.old.count) }
 {
     let other = inside.grove.table.next(left);
     let both = inside.grove.table.size(left) as u32 + inside.grove.table.size(other) as u32;
@@ -64,7 +64,7 @@ pub fn leave<K: Key, D: Dictionary>(
     ensures left { Left K.Key.width inside.old key result (row_of inside.new.grove.table inside.new.grove.pool) }
     ensures tally { D.Dictionary.frames d.new ≡ raised (D.Dictionary.frames d.old) result.frames }
     ensures room { D.Dictionary.room d.new ≡ D.Dictionary.room d.old }
-    ensures rest { (inside.new.limit ≡ inside.old.limit) × (inside.new.count + 1 ≡ inside.old.count) × (inside.new.shut ≡ inside.old.shut) }
+    ensures rest { (inside.new.limit ≡ inside.old.limit) × (inside.new.count + 1 ≡ inside.old.count) }
 {
     inside.grove.shrink(number, key);
     inside.count -= 1;

@@ -27,7 +27,7 @@ pub fn split<K: Key, D: Dictionary>(d: &mut D, inside: &mut Inside, number: u16)
     ensures few { result ≤ 2 * (K.Key.width + 1) }
     ensures tally { D.Dictionary.frames d.new ≡ raised (D.Dictionary.frames d.old) result }
     ensures room { D.Dictionary.room d.new ≡ D.Dictionary.room d.old }
-    ensures rest { (inside.new.limit ≡ inside.old.limit) × (inside.new.count ≡ inside.old.count) × (inside.new.shut ≡ inside.old.shut) }
+    ensures rest { (inside.new.limit ≡ inside.old.limit) × (inside.new.count ≡ inside.old.count) }
 {
     let rep = inside.grove.middle_key(number);
     let opened = open_bucket::<K, D>(d, &mut inside.grove.table, number, rep);
@@ -46,7 +46,7 @@ pub fn merge<K: Key, D: Dictionary>(d: &mut D, inside: &mut Inside, number: u16)
     ensures few { result ≤ 2 * (K.Key.width + 1) }
     ensures tally { D.Dictionary.frames d.new ≡ raised (D.Dictionary.frames d.old) result }
     ensures room { D.Dictionary.room d.new ≡ D.Dictionary.room d.old }
-    ensures rest { (inside.new.limit ≡ inside.old.limit) × (inside.new.count ≡ inside.old.count) × (inside.new.shut ≡ inside.old.shut) }
+    ensures rest { (inside.new.limit ≡ inside.old.limit) × (inside.new.count ≡ inside.old.count) }
 {
     let other = inside.grove.table.next(number);
     inside.grove.unite(number, other);

@@ -1,9 +1,11 @@
 // An entry comes into the index.
-ghost use Rattle.std.specs.Prelude.{◌≡◌, []};
+ghost use Rattle.std.specs.Prelude.{◌≡◌, is_none, []};
 ghost use Rattle.ordered.specs.declared.calls.Call.TheVariants.{Add};
-ghost use Rattle.inside.specs.Whole.{Does, state_of};
+ghost use Rattle.inside.specs.Whole.{Does, limit_of, state_of};
 
+use crate::admits::admits;
 use crate::index::YFast;
+use crate::look::look_up;
 use dictionary::Dictionary;
 use entry::Entry;
 use key::Key;
@@ -12,23 +14,26 @@ use workings::enter::enter;
 
 impl<K: Key, D: Dictionary> YFast<K, D> {
     pub fn add(&mut self, key: u64, note: u64) -> Answer
-        ensures does { Does self.old.inside.shut K.Key.width self.old.inside.limit (state_of (D.Dictionary.pairs self.old.dictionary) (D.Dictionary.frames self.old.dictionary) self.old.inside) (Add key note) [] (record { answer = result; places = [] }) (state_of (D.Dictionary.pairs self.new.dictionary) (D.Dictionary.frames self.new.dictionary) self.new.inside) }
-        ensures limit { self.new.inside.limit ≡ self.old.inside.limit }
-        ensures shut { self.new.inside.shut ≡ self.old.inside.shut }
+        ensures does { Does (is_none self.old.inside) K.Key.width (limit_of self.old.inside) (state_of (D.Dictionary.pairs self.old.dictionary) (D.Dictionary.frames self.old.dictionary) self.old.inside) (Add key note) [] (record { answer = result; places = [] }) (state_of (D.Dictionary.pairs self.new.dictionary) (D.Dictionary.frames self.new.dictionary) self.new.inside) }
+        ensures limit { limit_of self.new.inside ≡ limit_of self.old.inside }
+        ensures shut { is_none self.new.inside ≡ is_none self.old.inside }
         ensures room { D.Dictionary.room self.new.dictionary ≡ D.Dictionary.room self.old.dictionary }
     {
-        if let Err(refusal) = self.admits(key, key) {
+        let Some(inside) = &mut self.inside else {
+            return Answer::refused(Refusal::Shut, 0, 0);
+        };
+        if let Err(refusal) = admits::<K>(key, key) {
             return Answer::refused(refusal, 0, 0);
         }
-        let look = self.look(key);
+        let look = look_up::<K, D>(&mut self.dictionary, inside, key);
         if look.found.entry.is_some() {
             return Answer::refused(Refusal::Held, look.frames, look.found.visits);
         }
-        if self.inside.count >= self.inside.limit {
+        if inside.count >= inside.limit {
             return Answer::refused(Refusal::Full, look.frames, look.found.visits);
         }
         let new = Entry { key, note };
-        let change = enter::<K, D>(&mut self.dictionary, &mut self.inside, look.number, new);
+        let change = enter::<K, D>(&mut self.dictionary, inside, look.number, new);
         Answer {
             outcome: Ok(new),
             number: 0,

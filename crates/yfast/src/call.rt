@@ -1,6 +1,6 @@
 // Any call, by its word.
-ghost use Rattle.std.specs.Prelude.{◌≡◌};
-ghost use Rattle.inside.specs.Whole.{Does, state_of};
+ghost use Rattle.std.specs.Prelude.{◌≡◌, is_none};
+ghost use Rattle.inside.specs.Whole.{Does, limit_of, state_of};
 
 use crate::index::YFast;
 use dictionary::Dictionary;
@@ -10,9 +10,9 @@ use ordered::{Answer, Call};
 
 impl<K: Key, D: Dictionary> YFast<K, D> {
     pub(crate) fn call(&mut self, call: Call, places: &mut [Entry]) -> Answer
-        ensures does { Does self.old.inside.shut K.Key.width self.old.inside.limit (state_of (D.Dictionary.pairs self.old.dictionary) (D.Dictionary.frames self.old.dictionary) self.old.inside) call places.old (record { answer = result; places = places.new }) (state_of (D.Dictionary.pairs self.new.dictionary) (D.Dictionary.frames self.new.dictionary) self.new.inside) }
-        ensures limit { self.new.inside.limit ≡ self.old.inside.limit }
-        ensures shut { self.new.inside.shut ≡ self.old.inside.shut }
+        ensures does { Does (is_none self.old.inside) K.Key.width (limit_of self.old.inside) (state_of (D.Dictionary.pairs self.old.dictionary) (D.Dictionary.frames self.old.dictionary) self.old.inside) call places.old (record { answer = result; places = places.new }) (state_of (D.Dictionary.pairs self.new.dictionary) (D.Dictionary.frames self.new.dictionary) self.new.inside) }
+        ensures limit { limit_of self.new.inside ≡ limit_of self.old.inside }
+        ensures shut { is_none self.new.inside ≡ is_none self.old.inside }
         ensures room { D.Dictionary.room self.new.dictionary ≡ D.Dictionary.room self.old.dictionary }
     {
         match call {

@@ -1,4 +1,4 @@
-// An index: its dictionary, and what it keeps beside it.
+// An index: its dictionary, and what it keeps beside it. A shut index keeps nothing.
 ghost use Rattle.inside.specs.Whole.{Sound};
 ghost use Rattle.inside.specs.Props.{Sound-prop};
 
@@ -11,6 +11,6 @@ use std::marker::PhantomData;
 pub struct YFast<K: Key, D: Dictionary> {
     pub(crate) kind: PhantomData<K>,
     pub(crate) dictionary: D,
-    pub(crate) inside: Inside,
+    pub(crate) inside: Option<Inside>,
     ghost sound: { Sound K.width (D.pairs dictionary) (D.room dictionary) (D.frames dictionary) inside } by { Sound-prop K.width (D.pairs dictionary) (D.room dictionary) (D.frames dictionary) inside },
 }

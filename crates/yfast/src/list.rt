@@ -1,7 +1,8 @@
 // What can be read from an index without a frame: all entries, how many they are and may be, and
 // whether the index is shut. A shut index has no entry.
-ghost use Rattle.std.specs.Prelude.{◌≡◌, ◌≤◌, length};
+ghost use Rattle.std.specs.Prelude.{◌≡◌, is_none, ◌≤◌, length};
 ghost use Rattle.inside.specs.Spans.{kept_in, over};
+ghost use Rattle.inside.specs.Whole.{limit_of};
 
 use crate::index::YFast;
 use dictionary::Dictionary;
@@ -11,24 +12,26 @@ use workings::spans::write_span;
 
 impl<K: Key, D: Dictionary> YFast<K, D> {
     pub fn is_shut(&self) -> bool
-        ensures { result ≡ self.now.inside.shut }
+        ensures { result ≡ is_none self.now.inside }
     {
-        self.inside.shut
+        self.inside.is_none()
     }
 
     pub fn limit(&self) -> usize
-        ensures { result ≡ self.now.inside.limit }
+        ensures { result ≡ limit_of self.now.inside }
     {
-        self.inside.limit as usize
+        match &self.inside {
+            Some(inside) => inside.limit as usize,
+            None => 0,
+        }
     }
 
     pub fn len(&self) -> usize
         ensures { result ≡ length (kept_in self.now.inside) }
     {
-        if self.inside.shut {
-            0
-        } else {
-            self.inside.count as usize
+        match &self.inside {
+            Some(inside) => inside.count as usize,
+            None => 0,
         }
     }
 
@@ -37,9 +40,8 @@ impl<K: Key, D: Dictionary> YFast<K, D> {
         requires { length (kept_in self.now.inside) ≤ length places.old }
         ensures { places.new ≡ over (kept_in self.now.inside) places.old }
     {
-        if self.inside.shut {
-            return;
+        if let Some(inside) = &self.inside {
+            write_span(&inside.grove, 0, 0, u64::MAX, places);
         }
-        write_span(&self.inside.grove, 0, 0, u64::MAX, places);
     }
 }

@@ -1,10 +1,11 @@
 // The search for a key's bucket, and the look for the key in the tree of that bucket.
-ghost use Rattle.std.specs.Prelude.{◌≡◌, ◌^◌, ◌<◌, false};
+ghost use Rattle.std.specs.Prelude.{◌≡◌, ◌^◌, ◌<◌};
 ghost use Rattle.dictionary.specs.Pairs.{raised};
+ghost use Rattle.trie.specs.Sound.{Sound as TrieSound};
 ghost use Rattle.inside.specs.Looks.{Looked};
 
-use crate::index::YFast;
 use dictionary::Dictionary;
+use inside::Inside;
 use key::Key;
 use trees::Found;
 use trie::locate;
@@ -17,23 +18,20 @@ pub(crate) struct Look {
     pub(crate) found: Found,
 }
 
-impl<K: Key, D: Dictionary> YFast<K, D> {
-    pub(crate) fn look(&mut self, key: u64) -> Look
-        requires unshut { self.old.inside.shut ≡ false }
-        requires fits { key < 2 ^ K.Key.width }
-        ensures looked { Looked K.Key.width self.old.inside key result.number result.frames result.found }
-        ensures tally { D.Dictionary.frames self.new.dictionary ≡ raised (D.Dictionary.frames self.old.dictionary) result.frames }
-        ensures pairs { D.Dictionary.pairs self.new.dictionary ≡ D.Dictionary.pairs self.old.dictionary }
-        ensures room { D.Dictionary.room self.new.dictionary ≡ D.Dictionary.room self.old.dictionary }
-        ensures inside { self.new.inside ≡ self.old.inside }
-    {
-        let grove = &self.inside.grove;
-        let at = locate::<K, D>(&mut self.dictionary, &grove.table, key);
-        let root = grove.table.root(at.number);
-        Look {
-            number: at.number,
-            frames: at.frames,
-            found: trees::find(&grove.pool.nodes, root, key),
-        }
+pub(crate) fn look_up<K: Key, D: Dictionary>(d: &mut D, inside: &Inside, key: u64) -> Look
+    requires sound { TrieSound K.Key.width (D.Dictionary.pairs d.old) inside.now.grove.table }
+    requires fits { key < 2 ^ K.Key.width }
+    ensures looked { Looked K.Key.width inside.now key result.number result.frames result.found }
+    ensures tally { D.Dictionary.frames d.new ≡ raised (D.Dictionary.frames d.old) result.frames }
+    ensures pairs { D.Dictionary.pairs d.new ≡ D.Dictionary.pairs d.old }
+    ensures room { D.Dictionary.room d.new ≡ D.Dictionary.room d.old }
+{
+    let grove = &inside.grove;
+    let at = locate::<K, D>(d, &grove.table, key);
+    let root = grove.table.root(at.number);
+    Look {
+        number: at.number,
+        frames: at.frames,
+        found: trees::find(&grove.pool.nodes, root, key),
     }
 }

@@ -1,12 +1,11 @@
 // Making an index: whether a dictionary fits a limit, and the index on it. A dictionary that does not
 // fit gives a shut index, and is not touched.
-ghost use Rattle.std.specs.Prelude.{◌≡◌, true, false, length, is_some};
+ghost use Rattle.std.specs.Prelude.{◌≡◌, is_none, true, false, length, is_some};
 ghost use Rattle.std.specs.Result.{result_err};
 ghost use Rattle.ordered.specs.Fitness.{fitness};
 ghost use Rattle.inside.specs.Making.{Bare, Made, Kept};
 
 use crate::index::YFast;
-use buckets::Table;
 use dictionary::Dictionary;
 use forest::Grove;
 use inside::Inside;
@@ -33,34 +32,27 @@ pub fn fitness<K: Key, D: Dictionary>(limit: u32, dictionary: &D) -> Result<(), 
 impl<K: Key, D: Dictionary> YFast<K, D> {
     // Sets up representative 0, where the dictionary fits.
     pub fn new(limit: u32, mut dictionary: D) -> YFast<K, D>
-        ensures shut { result.inside.shut ≡ is_some (fitness K.Key.width limit (D.Dictionary.room dictionary) (length (D.Dictionary.nodes dictionary)) (D.Dictionary.frames dictionary)) }
+        ensures shut { is_none result.inside ≡ is_some (fitness K.Key.width limit (D.Dictionary.room dictionary) (length (D.Dictionary.nodes dictionary)) (D.Dictionary.frames dictionary)) }
         ensures bare { Bare result.inside }
-        ensures kept { result.inside.shut ≡ true → Kept dictionary result.inside result.dictionary }
-        ensures made { result.inside.shut ≡ false → Made K.Key.width limit (D.Dictionary.room dictionary) result.inside (D.Dictionary.room result.dictionary) (D.Dictionary.frames result.dictionary) }
+        ensures kept { is_none result.inside ≡ true → Kept dictionary result.inside result.dictionary }
+        ensures made { is_none result.inside ≡ false → Made K.Key.width limit (D.Dictionary.room dictionary) result.inside (D.Dictionary.room result.dictionary) (D.Dictionary.frames result.dictionary) }
     {
         if fitness::<K, D>(limit, &dictionary).is_err() {
-            let inside = Inside {
-                grove: Grove::new(Table::new()),
-                limit: 0,
-                count: 0,
-                shut: true,
-            };
             return YFast {
                 kind: PhantomData,
                 dictionary,
-                inside,
+                inside: None,
             };
         }
         let inside = Inside {
             grove: Grove::new(trie::make::<K, D>(&mut dictionary)),
             limit: limit as u16,
             count: 0,
-            shut: false,
         };
         YFast {
             kind: PhantomData,
             dictionary,
-            inside,
+            inside: Some(inside),
         }
     }
 }

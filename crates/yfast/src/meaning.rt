@@ -11,11 +11,11 @@ use ordered::Answer;
 use ordered::index::OrderedIndex;
 
 impl<K: Key, D: Dictionary> OrderedIndex<K> for YFast<K, D> {
-    ghost view = { λ s. seen_as s.inside.shut K.Key.width (D.Dictionary.pairs s.dictionary) (D.Dictionary.frames s.dictionary) s.inside };
+    ghost view = { λ s. seen_as K.Key.width (D.Dictionary.pairs s.dictionary) (D.Dictionary.frames s.dictionary) s.inside };
 
     ghost lawful = { λ s.
         let d = D.Dictionary in
-        lawful_as s.inside.shut K.Key.width (d.pairs s.dictionary) (d.room s.dictionary) (d.frames s.dictionary) s.inside (D.Dictionary.counts s.dictionary) s.sound };
+        lawful_as K.Key.width (d.pairs s.dictionary) (d.room s.dictionary) (d.frames s.dictionary) s.inside (D.Dictionary.counts s.dictionary) s.sound };
 
     fn add(&mut self, key: u64, note: u64) -> Answer {
         YFast::add(self, key, note)
@@ -50,11 +50,7 @@ impl<K: Key, D: Dictionary> OrderedIndex<K> for YFast<K, D> {
     }
 
     fn limit(&self) -> usize {
-        if YFast::is_shut(self) {
-            0
-        } else {
-            YFast::limit(self)
-        }
+        YFast::limit(self)
     }
 
     fn list(&self, places: &mut [Entry]) {

@@ -1,9 +1,10 @@
 // The entries from a first to a second key, both included. They are counted before the first of them
 // is written, so a refusal leaves the places be.
-ghost use Rattle.std.specs.Prelude.{◌≡◌};
+ghost use Rattle.std.specs.Prelude.{◌≡◌, is_none};
 ghost use Rattle.ordered.specs.declared.calls.Call.TheVariants.{Range};
-ghost use Rattle.inside.specs.Whole.{Does, state_of};
+ghost use Rattle.inside.specs.Whole.{Does, limit_of, state_of};
 
+use crate::admits::admits;
 use crate::index::YFast;
 use dictionary::Dictionary;
 use entry::Entry;
@@ -14,14 +15,17 @@ use workings::spans::{count_span, write_span};
 
 impl<K: Key, D: Dictionary> YFast<K, D> {
     pub fn range(&mut self, first: u64, second: u64, places: &mut [Entry]) -> Answer
-        ensures does { Does self.old.inside.shut K.Key.width self.old.inside.limit (state_of (D.Dictionary.pairs self.old.dictionary) (D.Dictionary.frames self.old.dictionary) self.old.inside) (Range first second) places.old (record { answer = result; places = places.new }) (state_of (D.Dictionary.pairs self.new.dictionary) (D.Dictionary.frames self.new.dictionary) self.new.inside) }
+        ensures does { Does (is_none self.old.inside) K.Key.width (limit_of self.old.inside) (state_of (D.Dictionary.pairs self.old.dictionary) (D.Dictionary.frames self.old.dictionary) self.old.inside) (Range first second) places.old (record { answer = result; places = places.new }) (state_of (D.Dictionary.pairs self.new.dictionary) (D.Dictionary.frames self.new.dictionary) self.new.inside) }
         ensures inside { self.new.inside ≡ self.old.inside }
         ensures room { D.Dictionary.room self.new.dictionary ≡ D.Dictionary.room self.old.dictionary }
     {
-        if let Err(refusal) = self.admits(first, second) {
+        let Some(inside) = &self.inside else {
+            return Answer::refused(Refusal::Shut, 0, 0);
+        };
+        if let Err(refusal) = admits::<K>(first, second) {
             return Answer::refused(refusal, 0, 0);
         }
-        let grove = &self.inside.grove;
+        let grove = &inside.grove;
         let at = locate::<K, D>(&mut self.dictionary, &grove.table, first);
         let number = count_span(grove, at.number, first, second);
         if number > places.len() {

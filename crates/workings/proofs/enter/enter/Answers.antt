@@ -96,7 +96,7 @@ returns-then-size-half_width g c =
       few = omega arith;
       tally = omega (arith, low);
       room = refl;
-      rest = (refl, refl, refl);
+      rest = (refl, refl);
     }
 
 pub returns : goal.returns
@@ -126,12 +126,11 @@ returns g c =
     let at_place = placed (rep_of i.grove.table) (items_of i.grove.table i.grove.pool) (tree_of i.grove.table i.grove.pool) (order_of i.grove.table) k n x in
     let did = c.split-frames.ensures.split x.pre x.post order in
     let same : split_at w (length x.pre) (row_of u q) ≡ grown w (place k s) (with_entry e s) = ap (split_at w (length x.pre)) row ∙ (ap (λ j. split_at w j (with_entry e s)) (sym at_place) ∙ sym is) in
-    let rest = c.split-frames.ensures.rest in
     record {
       trie = c.split-frames.ensures.trie;
       entered = record { row = did.0 ∙ ap (λ (ch : Change). ch.after) same; frames = did.1 ∙ ap (λ (ch : Change). ch.frames) same; rebuilding = split_kind w (place k s) (with_entry e s) ∙ ap (λ (ch : Change). ch.rebuilding) (sym is) };
       few = c.split-frames.ensures.few;
       tally = c.split-frames.ensures.tally;
       room = c.split-frames.ensures.room;
-      rest = (rest.0, rest.1, rest.2);
+      rest = c.split-frames.ensures.rest;
     }

@@ -35,7 +35,7 @@ returns-then-size-half_width g c =
       left = left_still w f (g.D.Dictionary.room d) (g.D.Dictionary.frames d) i big c.requires.whole c.args.key c.requires.fits n c.requires.place c.requires.some u c.shrink.new.self.pool c.shrink.new.self.forest re way;
       tally = omega (arith, g.met.D.Dictionary.counts d);
       room = refl;
-      rest = (refl, omega (arith, counted), refl);
+      rest = (refl, omega (arith, counted));
     }
 
 pub prev-left-requires : goal.prev-left-requires
@@ -93,5 +93,5 @@ returns g c =
       left = left_mended w f room tally i big c.requires.whole c.args.key c.requires.fits n c.requires.place c.requires.some u c.shrink.new.self.pool c.shrink.new.self.forest re c.mend.result _ (length x.front) few long x.long (me.mended x.front x.other x.rest x.is);
       tally = me.tally;
       room = me.room;
-      rest = (me.rest.0, omega (arith, me.rest.1, counted), me.rest.2);
+      rest = (me.rest.0, omega (arith, me.rest.1, counted));
     }

@@ -87,5 +87,5 @@ returns g c =
           did_share w (length pre) (row_of t p) _ _ _ _ sum m.1 m.2 d.0 d.1;
       tally = omega (arith, sp.tally, me.tally);
       room = sp.room ∙ me.room;
-      rest = (sp.rest.0 ∙ me.rest.0, sp.rest.1 ∙ me.rest.1, sp.rest.2 ∙ me.rest.2);
+      rest = (sp.rest.0 ∙ me.rest.0, sp.rest.1 ∙ me.rest.1);
     }

@@ -95,5 +95,5 @@ returns g c =
       few = c.close_bucket.ensures.few;
       tally = c.close_bucket.ensures.tally;
       room = c.close_bucket.ensures.room;
-      rest = (refl, refl, refl);
+      rest = (refl, refl);
     }

@@ -91,5 +91,5 @@ returns g c =
       few = c.open_bucket-opened.ensures.few;
       tally = c.open_bucket-opened.ensures.tally;
       room = c.open_bucket-opened.ensures.room;
-      rest = (refl, refl, refl);
+      rest = (refl, refl);
     }

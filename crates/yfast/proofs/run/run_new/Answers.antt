@@ -1,4 +1,4 @@
-use Rattle.std.proofs.Common.{◌≡◌, take, drop, sym, ap, ◌∙◌, subst}
+use Rattle.std.proofs.Common.{◌≡◌, is_none, take, drop, sym, ap, ◌∙◌, subst}
 use Rattle.ordered.specs.Kinds.{Kind, KindLaws}
 use Rattle.inside.specs.Whole.{state_of}
 use Rattle.inside.specs.Runs.{made, RanNew}
@@ -25,11 +25,11 @@ returns g c =
     let qs = c.run.new.places in
     let k = c.run.result in
     let σ' = state_of (pairs e.dictionary) (frames e.dictionary) e.inside in
-    let ran = ran_new kind laws c.args.limit (pairs given) (frames given) (pairs d) (room d) (frames d) i n.bare ps (take k cs) (take k rs) σ' qs i.shut (λ s. (ap pairs (n.kept s).dictionary, ap frames (n.kept s).dictionary)) (λ s. ((n.made s).limit, (n.made s).tally)) (g.met.D.Dictionary.counts d) c.new-index.result.sound r.ran in
+    let ran = ran_new kind laws c.args.limit (pairs given) (frames given) (pairs d) (room d) (frames d) ps (take k cs) (take k rs) σ' qs i n.bare (λ s. (ap pairs (n.kept s).dictionary, ap frames (n.kept s).dictionary)) (λ s. ((n.made s).limit, (n.made s).tally)) (g.met.D.Dictionary.counts d) c.new-index.result.sound r.ran in
     record {
       shut = r.shut ∙ n.shut;
       ran =
           subst (λ x. RanNew x kind c.args.limit (pairs given) (frames given) ps (take (made cs c.args.answers.now) cs) (take (made cs c.args.answers.now) rs) σ' qs) (sym r.shut)
-          (subst (λ x. RanNew i.shut kind c.args.limit (pairs given) (frames given) ps (take x cs) (take x rs) σ' qs) r.made ran);
+          (subst (λ x. RanNew (is_none i) kind c.args.limit (pairs given) (frames given) ps (take x cs) (take x rs) σ' qs) r.made ran);
       rest = subst (λ x. drop x rs ≡ drop x c.args.answers.now) r.made r.rest;
     }

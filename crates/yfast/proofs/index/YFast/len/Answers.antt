@@ -1,12 +1,12 @@
-use Rattle.inside.proofs.Lists.{whole_of, counted_all}
+use Rattle.std.proofs.Common.{length, sym, ap, ◌∙◌}
+use Rattle.inside.specs.Spans.{kept_in}
+use Rattle.inside.proofs.Finds.{whole_of}
+use Rattle.inside.proofs.Lists.{counted_all}
 use Rattle.yfast.proofs.index.YFast.len.Goals as goal
 
-pub returns-else-self : goal.returns-else-self
-returns-else-self g c =
-    let i = c.args.self.now.inside in
-    let d = c.args.self.now.dictionary in
-    let w = g.K.Key.width in
-    let f = g.D.Dictionary.pairs d in
-    let room = g.D.Dictionary.room d in
-    let tally = g.D.Dictionary.frames d in
-    counted_all w f room tally i g.met.K.Key.wide.1 c.if-self.false (whole_of w f room tally i c.if-self.false c.args.self.now.sound)
+pub returns-in-Some : goal.returns-in-Some
+returns-in-Some g c =
+    let x = c.args.self.now in
+    let d = g.D.Dictionary in
+    counted_all g.K.Key.width (d.pairs x.dictionary) (d.room x.dictionary) (d.frames x.dictionary) c.in-Some.inside g.met.K.Key.wide.1 (whole_of _ _ _ _ x.inside c.in-Some.inside c.in-Some.is x.sound)
+    ∙ ap (λ o. length (kept_in o)) (sym c.in-Some.is)

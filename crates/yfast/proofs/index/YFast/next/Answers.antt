@@ -1,4 +1,4 @@
-use Rattle.std.proofs.Common.{◌≡◌, ◌+◌, cond, [], ◌++◌, sym, refl, ap, ◌∙◌, subst}
+use Rattle.std.proofs.Common.{◌≡◌, ◌+◌, cond, [], ◌++◌, sym, ap, ◌∙◌, subst}
 use Rattle.dictionary.specs.Pairs.{raised}
 use Rattle.entry.specs.Lists.{from, filled}
 use Rattle.levels.specs.Counts.{searching}
@@ -13,50 +13,39 @@ use Rattle.ordered.specs.declared.calls.Answer.{Answer}
 use Rattle.ordered.specs.declared.calls.Call.TheVariants.{Next}
 use Rattle.ordered.specs.declared.refusal.Refusal.TheVariants.{Nothing}
 use Rattle.runs.specs.States.{Answered}
-use Rattle.inside.specs.Whole.{state_of, Does}
 use Rattle.ordered.specs.Answers.{answer_of, reply_of}
 use Rattle.inside.proofs.Parts.{held_in}
 use Rattle.inside.proofs.Quiet.{one_key, next_step}
-use Rattle.inside.proofs.Finds.{barred_does, open_whole, one_fits, open_does}
+use Rattle.inside.proofs.Finds.{barred_does, whole_of, one_fits, open_does}
 use Rattle.yfast.proofs.index.YFast.next.Goals as goal
 
 answer_with : Answer → Answered
 answer_with r = record { answer = r; places = [] }
 
-pub returns-in-Err : goal.returns-in-Err
-unfolding answer_with
-returns-in-Err g c =
+pub returns-in-Err-clause-does : goal.returns-in-Err-clause-does
+returns-in-Err-clause-does g c =
+    let x = c.args.self.now in
     let k = c.args.key in
-    let i = c.args.self.now.inside in
-    let d = c.args.self.now.dictionary in
-    let w = g.K.Key.width in
-    let f = g.D.Dictionary.pairs d in
-    let room = g.D.Dictionary.room d in
-    let tally = g.D.Dictionary.frames d in
-    let does = barred_does i.shut w f room tally i g.met.K.Key.wide.0 (g.met.D.Dictionary.counts d) refl c.args.self.now.sound (Next k) [] k k c.in-Err.refusal (one_key w k) c.in-Err.ensures in
-    record {
-      does = subst (λ r. Does i.shut w i.limit (state_of f tally i) (Next k) [] (answer_with r) (state_of f tally i)) (sym c.refused.ensures) does;
-      inside = refl;
-      room = refl;
-    }
+    barred_does _ _ _ _ _ _ _ g.met.K.Key.wide.0 (g.met.D.Dictionary.counts x.dictionary) c.in-Some.is c.in-Some.is x.sound (Next k) [] _ _ c.refused-in-Err.ensures (sym (one_key g.K.Key.width k) ∙ sym c.in-Err.ensures)
 
-pub returns : goal.returns
+pub returns-clause-does : goal.returns-clause-does
 unfolding answer_with
-returns g c =
+returns-clause-does g c =
     let k = c.args.key in
-    let i = c.args.self.now.inside in
-    let d = c.args.self.now.dictionary in
+    let i = c.in-Some.inside in
+    let x = c.args.self.now in
+    let d = x.dictionary in
     let e = c.locate-at.new.d in
     let w = g.K.Key.width in
     let f = g.D.Dictionary.pairs d in
     let room = g.D.Dictionary.room d in
     let tally = g.D.Dictionary.frames d in
     let n = g.D.Dictionary.frames e in
-    let o = open_whole w f room tally i k k c.args.self.now.sound c.in_default.ensures in
+    let wh = whole_of w f room tally x.inside i c.in-Some.is x.sound in
     let m = c.locate-at.result.number in
     let items = items_of i.grove.table i.grove.pool in
     let tree = tree_of i.grove.table i.grove.pool in
-    let cut = subst (InRow (rep_of i.grove.table) (order_of i.grove.table) k) (sym c.locate-at.ensures.number) (held_in w f i.grove.table o.1.trie k) in
+    let cut = subst (InRow (rep_of i.grove.table) (order_of i.grove.table) k) (sym c.locate-at.ensures.number) (held_in w f i.grove.table wh.trie k) in
     let found = c.next_from-found.ensures cut.pre cut.post cut.is in
     let fr = c.locate-at.ensures.frames in
     let xs = from k (items m) ++ ahead [] items cut.post in
@@ -66,9 +55,5 @@ returns g c =
     ∙ (ap (λ x. reply_of x Nothing c.locate-at.result.frames c.next_from-found.result.visits) found.entry
     ∙ (ap (λ x. reply_of (foremost xs) Nothing x c.next_from-found.result.visits) fr
     ∙ ap (λ x. reply_of (foremost xs) Nothing (searching w (reps_of i.grove.table) k) x) found.visits))) in
-    let t = next_step w f room tally i g.met.K.Key.wide.0 o.1 k [] n m cut (one_fits i.shut w k c.in_default.ensures) (g.met.D.Dictionary.counts e) (c.locate-at.ensures.tally ∙ ap (raised tally) fr) in
-    record {
-      does = open_does w f (g.D.Dictionary.pairs e) tally n i (Next k) [] _ (answer_with c.new.result) o.0 c.locate-at.ensures.pairs (ap answer_with q) t;
-      inside = refl;
-      room = c.locate-at.ensures.room;
-    }
+    let t = next_step w f room tally i g.met.K.Key.wide.0 wh k [] n m cut (one_fits w k c.in_default-admits.ensures) (g.met.D.Dictionary.counts e) (c.locate-at.ensures.tally ∙ ap (raised tally) fr) in
+    open_does w f (g.D.Dictionary.pairs e) tally n x.inside x.inside i (Next k) [] _ (answer_with c.new.result) c.in-Some.is c.in-Some.is c.locate-at.ensures.pairs (ap answer_with q) t

@@ -8,5 +8,5 @@ returns g c =
     let e = c.add.ensures in
     let x = c.args.self.now in
     let d = g.D.Dictionary in
-    stepped_as x.inside.shut _ g.K.Key.width g.met.K.Key.wide.0 g.met.K.Key.wide.1 (d.pairs x.dictionary) (d.room x.dictionary) (d.frames x.dictionary) x.inside
+    stepped_as g.K.Key.width g.met.K.Key.wide.0 g.met.K.Key.wide.1 (d.pairs x.dictionary) (d.room x.dictionary) (d.frames x.dictionary) x.inside
     (g.met.D.Dictionary.counts x.dictionary) x.sound (Add c.args.key c.args.note) [] c.add.result [] _ _ _ e.shut e.limit e.does

@@ -1,6 +1,6 @@
-use Rattle.std.proofs.Common.{ap}
+use Rattle.std.proofs.Common.{is_none, ap}
 use Rattle.ordered.specs.declared.calls.Call.TheVariants.{Range}
-use Rattle.inside.specs.declared.Inside.{Inside}
+use Rattle.inside.specs.Whole.{limit_of}
 use Rattle.inside.proofs.Seen.{stepped_as}
 use Rattle.yfast.proofs.meaning.YFastOrderedIndex.range.Goals as goal
 
@@ -9,5 +9,5 @@ returns g c =
     let e = c.range.ensures in
     let x = c.args.self.now in
     let d = g.D.Dictionary in
-    stepped_as x.inside.shut _ g.K.Key.width g.met.K.Key.wide.0 g.met.K.Key.wide.1 (d.pairs x.dictionary) (d.room x.dictionary) (d.frames x.dictionary) x.inside
-    (g.met.D.Dictionary.counts x.dictionary) x.sound (Range c.args.first c.args.second) c.args.places.now c.range.result _ _ _ _ (ap (λ (i : Inside). i.shut) e.inside) (ap (λ (i : Inside). i.limit) e.inside) e.does
+    stepped_as g.K.Key.width g.met.K.Key.wide.0 g.met.K.Key.wide.1 (d.pairs x.dictionary) (d.room x.dictionary) (d.frames x.dictionary) x.inside
+    (g.met.D.Dictionary.counts x.dictionary) x.sound (Range c.args.first c.args.second) c.args.places.now c.range.result _ _ _ _ (ap is_none e.inside) (ap limit_of e.inside) e.does
