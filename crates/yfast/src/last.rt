@@ -1,5 +1,5 @@
 // The highest entry at or below a key. As next, but for the three words that say the side.
-ghost use Rattle.std.specs.Prelude.{◌≡◌, []};
+ghost use Rattle.std.specs.Prelude.{◌≡◌, is_none, []};
 ghost use Rattle.ordered.specs.declared.calls.Call.TheVariants.{Last};
 ghost use Rattle.inside.specs.Whole.{Does, limit_of, state_of};
 
