@@ -10,6 +10,7 @@ ghost use Rattle.buckets.specs.Rings.{StandingIn, StandingIn-prop};
 
 pub mod change;
 pub mod make;
+pub mod onward;
 pub mod read;
 
 // The root of a bucket that has no tree: the trees' own number for none, two bytes a record.

@@ -2,17 +2,18 @@
 use Rattle.std.proofs.Common.{◌≡◌, ℕ, ◌+◌, ◌<◌, ◌≤◌, Bool, true, false, cond, List, [], ◌∷◌, ◌++◌, is_some, Some, sym, refl, ap, ◌∙◌, subst, append-nil, arith}
 use Rattle.std.specs.List.{AllByRecursion}
 use Rattle.std.proofs.lemmas.Bool.{cond-true, cond-false}
-use Rattle.dictionary.specs.Pairs.{among, apart}
+use Rattle.dictionary.specs.Pairs.{among}
 use Rattle.entry.specs.declared.Entry.{Entry}
 use Rattle.entry.specs.Lists.{from, upto, filled}
 use Rattle.entry.proofs.Filters.{final_append}
 use Rattle.links.specs.Orders.{Behind, Before}
-use Rattle.links.proofs.Orders.{Not, all_among, apart_parts, all_parts}
+use Rattle.links.proofs.Orders.{Not, all_among, all_parts}
 use Rattle.avl.specs.declared.pool.Pool.{Pool}
 use Rattle.buckets.specs.declared.Table.{Table}
 use Rattle.buckets.specs.Tables.{next_of, prev_of, root_of, rest_of, order_of}
 use Rattle.buckets.proofs.Chains.{next_all, prev_all}
-use Rattle.buckets.proofs.Lays.{order_is, neighbours, all_apart, later}
+use Rattle.buckets.proofs.Lays.{order_is, neighbours, later}
+use Rattle.buckets.proofs.Onwards.{order_not_zero, later_not_zero}
 use Rattle.forest.specs.Forests.{Forest, tree_of, items_of}
 use Rattle.rows.specs.Rows.{ahead, back}
 use Rattle.trees.specs.declared.Found.{Found}
@@ -23,14 +24,7 @@ use Rattle.trees.proofs.Pools.{low}
 use Rattle.inside.specs.Near.{Above, Below}
 
 -- ---- neighbours
-behind_all : (P : ℕ → Type 0) (rest pre : List ℕ) (n : ℕ) (post : List ℕ) → 0 ∷ rest ≡ pre ++ n ∷ post → AllByRecursion P rest → AllByRecursion P post
-behind_all P rest [] n post e a = let q : rest ≡ post = cc in subst (AllByRecursion P) q a
-behind_all P rest (x ∷ pre) n post e a = let q : rest ≡ pre ++ n ∷ post = cc in (all_parts P pre (n ∷ post) (subst (AllByRecursion P) q a)).1.1
-
 module _ (t : Table) where
-  order_not_zero : AllByRecursion (Not 0) (rest_of t)
-  order_not_zero = (apart_parts 0 (rest_of t) (sym (ap apart (order_is t)) ∙ all_apart t)).0
-
   -- what holds of each bucket holds of a neighbour
   pub next_has : (P : ℕ → Type 0) (n : ℕ) → among n (order_of t) ≡ true → AllByRecursion P (order_of t) → P (next_of t n)
   next_has P n held a =
@@ -48,7 +42,7 @@ module _ (t : Table) where
 
     -- nothing is behind where the next number is 0, and otherwise that number is
     pub none_behind : next_of t n ≡ 0 → post ≡ []
-    none_behind z = go post (neighbours t pre n post is).1 (behind_all (Not 0) (rest_of t) pre n post cut_is order_not_zero)
+    none_behind z = go post (neighbours t pre n post is).1 (later_not_zero t pre n post is)
       where
         go : (ys : List ℕ) → Behind ys (next_of t n) → AllByRecursion (Not 0) ys → ys ≡ []
         go [] b a = refl
@@ -67,7 +61,7 @@ module _ (t : Table) where
       where
         go : (xs : List ℕ) → 0 ∷ rest_of t ≡ xs ++ n ∷ post → xs ≡ []
         go [] e = refl
-        go (x ∷ xs) e = let q : rest_of t ≡ xs ++ n ∷ post = cc in absurd ((all_parts (Not 0) xs (n ∷ post) (subst (AllByRecursion (Not 0)) q order_not_zero)).1.0 z)
+        go (x ∷ xs) e = let q : rest_of t ≡ xs ++ n ∷ post = cc in absurd ((all_parts (Not 0) xs (n ∷ post) (subst (AllByRecursion (Not 0)) q (order_not_zero t))).1.0 z)
 
     pub some_before : 0 < n → {X : Type 0} (d : X) (f : ℕ → X) → back d f pre ≡ f (prev_of t n)
     some_before h d f = go pre cut_is (neighbours t pre n post is).0

@@ -10,6 +10,8 @@ use Rattle.levels.specs.Counts.{searching}
 use Rattle.avl.specs.declared.pool.Pool.{Pool}
 use Rattle.buckets.specs.declared.Table.{Table}
 use Rattle.buckets.specs.Tables.{rep_of, order_of}
+use Rattle.buckets.specs.Onwards.{since}
+use Rattle.buckets.proofs.Onwards.{since_at}
 use Rattle.ordered.specs.declared.calls.Answer.{Answer}
 use Rattle.ordered.specs.declared.calls.Call.TheVariants.{Range}
 use Rattle.ordered.specs.declared.calls.Rebuilding.TheVariants.{Unchanged}
@@ -24,10 +26,9 @@ use Rattle.runs.specs.States.{Answered, Step, told_by, visits}
 use Rattle.runs.proofs.Made.{Obeys, step_made}
 use Rattle.inside.specs.declared.Inside.{Inside}
 use Rattle.ordered.specs.Answers.{no_of}
-use Rattle.inside.specs.Spans.{since, onward, over}
+use Rattle.inside.specs.Spans.{onward, over}
 use Rattle.inside.specs.Whole.{Whole, state_of}
 use Rattle.inside.proofs.Parts.{planted, laid}
-use Rattle.inside.proofs.Spans.{since_at}
 
 -- the answer of a range that was written
 abbrev pub wrote : ℕ → ℕ → Answer

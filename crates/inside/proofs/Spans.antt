@@ -1,181 +1,100 @@
 -- A walk over the buckets from one on: the entries of a span of keys, counted and written.
 --
---   since_last, since_next      the order from the last number on; from another
---   Counting, counting-..       entries are counted up to a bucket
---   Writing, writing-..         they are written up to there
-use Rattle.std.proofs.Common.{◌≡◌, ℕ, ◌+◌, ◌*◌, ◌≤◌, true, eqb, List, [], ◌∷◌, ◌++◌, length, drop, sym, refl, ap, ◌∙◌, subst, inl, inr, append_assoc, append-nil, zero-add, arith, length-append}
-use Rattle.std.specs.List.{flat_map}
-use Rattle.std.proofs.lemmas.Bool.{cases_Bool, cond-true, cond-false, eq-eqb, ne_eqb, eqb-true, eqb-false, or_left, or_right}
-use Rattle.dictionary.specs.Pairs.{among, apart}
+--   first_held                  the next bucket stands
+--   Counting, counting-..       entries are counted, and these buckets are to come
+--   Writing, writing-..         they are written
+use Rattle.std.proofs.Common.{◌≡◌, ℕ, ◌+◌, ◌*◌, ◌≤◌, true, List, [], ◌∷◌, ◌++◌, length, drop, sym, refl, ap, ◌∙◌, subst, zero-add, arith, length-append}
+use Rattle.std.specs.List.{AllByRecursion, flat_map}
+use Rattle.dictionary.specs.Pairs.{among}
 use Rattle.entry.specs.declared.Entry.{Entry}
 use Rattle.entry.specs.Lists.{between}
 use Rattle.entry.proofs.Filters.{between_append}
-use Rattle.links.specs.Orders.{Behind}
-use Rattle.links.proofs.Orders.{Not, cut, all_parts, apart_parts}
-use Rattle.links.proofs.Pigeon.{among_append}
 use Rattle.avl.specs.declared.pool.Pool.{Pool}
 use Rattle.buckets.specs.declared.Table.{Table}
-use Rattle.buckets.specs.Tables.{next_of, root_of, order_of}
-use Rattle.buckets.proofs.Lays.{neighbours, all_apart, order_long}
+use Rattle.buckets.specs.Tables.{root_of, order_of}
+use Rattle.buckets.specs.Onwards.{since}
+use Rattle.buckets.proofs.Onwards.{all_held, since_few}
 use Rattle.forest.specs.Forests.{Forest, items_of}
 use Rattle.trees.specs.Pools.{entries_at}
 use Rattle.trees.specs.Answers.{laid}
 use Rattle.trees.proofs.Rows.{laid_join, laid_parts}
 use Rattle.trees.proofs.Looks.{span_few}
-use Rattle.inside.specs.Spans.{since, onward, over}
-use Rattle.inside.proofs.Near.{none_behind, here_stands}
+use Rattle.inside.specs.Spans.{onward, over}
+use Rattle.inside.proofs.Near.{here_stands}
 
--- ---- the order from a number on
-since_cut : (n : ℕ) (pre post : List ℕ) → apart (pre ++ n ∷ post) ≡ true → since n (pre ++ n ∷ post) ≡ n ∷ post
-since_cut n [] post a = cond-true (eqb n n) _ _ (eq-eqb n n refl)
-since_cut n (x ∷ pre) post a =
-    let p = apart_parts x (pre ++ n ∷ post) a in
-    let other : x ≡ n → ⊥ = λ e. (all_parts (Not x) pre (n ∷ post) p.0).1.0 (sym e) in
-    cond-false (eqb x n) _ _ (ne_eqb x n other) ∙ since_cut n pre post p.1
+-- the entries of the span in these buckets
+abbrev spanned : Table → Pool → ℕ → ℕ → List ℕ → List Entry
+spanned t p a b left = between a b (flat_map (items_of t p) left)
 
-since_short : (n : ℕ) (xs : List ℕ) → length (since n xs) ≤ length xs
-since_short n [] = omega arith
-since_short n (x ∷ xs) = elim (cases_Bool (eqb x n)) [
-  | inl e ↦ rw e (omega arith)
-  | inr e ↦ rw e (omega (arith, since_short n xs))
-]
+-- the next bucket of a walk stands
+pub first_held : (t : Table) (x : ℕ) (ys xs : List ℕ) → ys ≡ x ∷ xs → AllByRecursion (λ m. among m (order_of t) ≡ true) ys → among x (order_of t) ≡ true
+first_held t x ys xs is held = (subst (AllByRecursion (λ m. among m (order_of t) ≡ true)) is held).0
 
-module _ (t : Table) where
-  pub since_at : (pre : List ℕ) (n : ℕ) (post : List ℕ) → order_of t ≡ pre ++ n ∷ post → since n (order_of t) ≡ n ∷ post
-  since_at pre n post is = ap (since n) is ∙ since_cut n pre post (sym (ap apart is) ∙ all_apart t)
-
-  held_at : (pre : List ℕ) (n : ℕ) (post : List ℕ) → order_of t ≡ pre ++ n ∷ post → among n (order_of t) ≡ true
-  held_at pre n post is = ap (among n) is ∙ (among_append n pre (n ∷ post) ∙ or_right (among n pre) _ (or_left (eqb n n) (among n post) (eq-eqb n n refl)))
-
-  since_last : (n : ℕ) → among n (order_of t) ≡ true → next_of t n ≡ 0 → since n (order_of t) ≡ n ∷ []
-  since_last n held z =
-      let c = cut (order_of t) n held in
-      since_at c.pre n c.post c.is ∙ ap (λ l. n ∷ l) (none_behind t c.pre n c.post c.is z)
-
-  -- the number behind stands too, and the order goes on from it
-  record Onto (n : ℕ) : Type 0 where
-    pub held : among (next_of t n) (order_of t) ≡ true
-    pub is : since n (order_of t) ≡ n ∷ since (next_of t n) (order_of t)
-
-  since_next : (n : ℕ) → among n (order_of t) ≡ true → (next_of t n ≡ 0 → ⊥) → Onto n
-  since_next n held z =
-      let c = cut (order_of t) n held in
-      go c.pre c.post c.is (neighbours t c.pre n c.post c.is).1
-    where
-      go : (pre post : List ℕ) → order_of t ≡ pre ++ n ∷ post → Behind post (next_of t n) → Onto n
-      go pre [] is b = absurd (z b)
-      go pre (y ∷ ys) is b =
-          let on : order_of t ≡ (pre ++ n ∷ []) ++ next_of t n ∷ ys = is ∙ (ap (λ y. pre ++ n ∷ y ∷ ys) (sym b) ∙ sym (append_assoc pre (n ∷ []) (next_of t n ∷ ys))) in
-          record {
-            held = held_at (pre ++ n ∷ []) (next_of t n) ys on;
-            is = since_at pre n (y ∷ ys) is ∙ (ap (λ y. n ∷ y ∷ ys) (sym b) ∙ ap (λ l. n ∷ l) (sym (since_at (pre ++ n ∷ []) (next_of t n) ys on)));
-          }
-
-  since_few : (n : ℕ) → length (since n (order_of t)) ≤ 128
-  since_few n = omega (arith, since_short n (order_of t), order_long t, t.stands.count, t.stands.whole)
-
-  since_some : (n : ℕ) → among n (order_of t) ≡ true → 1 ≤ length (since n (order_of t))
-  since_some n held = let c = cut (order_of t) n held in omega (arith, ap length (since_at c.pre n c.post c.is))
-
--- how far a walk has come: it is at a bucket, after so many turns
-pub record Walking (t : Table) (at turn : ℕ) : Type 0 where
-  pub held : among at (order_of t) ≡ true
-  pub left : turn + length (since at (order_of t)) ≤ 128
-
--- a walk that began at n, with the entries counted so far
-pub record Counting (t : Table) (p : Pool) (a b n at sum turn : ℕ) : Type 0 where
-  pub walk : Walking t at turn
-  pub few : sum ≤ 512 * turn
-  pub rest : sum + length (between a b (onward t p at)) ≡ length (between a b (onward t p n))
+-- a walk that began at n, with the entries counted so far and the buckets to come
+pub record Counting (t : Table) (p : Pool) (a b n : ℕ) (left : List ℕ) (sum : ℕ) : Type 0 where
+  pub held : AllByRecursion (λ m. among m (order_of t) ≡ true) left
+  pub few : sum + 512 * length left ≤ 512 * 128
+  pub rest : sum + length (spanned t p a b left) ≡ length (between a b (onward t p n))
 
 -- one with the entries written so far: ps are the places at the beginning, and qs are those now
-pub record Writing (t : Table) (p : Pool) (a b n at place turn : ℕ) (ps qs : List Entry) : Type 0 where
-  pub walk : Walking t at turn
-  pub rest : place + length (between a b (onward t p at)) ≡ length (between a b (onward t p n))
-  pub done : laid qs place (between a b (onward t p at)) ≡ laid ps 0 (between a b (onward t p n))
+pub record Writing (t : Table) (p : Pool) (a b n : ℕ) (left : List ℕ) (place : ℕ) (ps qs : List Entry) : Type 0 where
+  pub held : AllByRecursion (λ m. among m (order_of t) ≡ true) left
+  pub rest : place + length (spanned t p a b left) ≡ length (between a b (onward t p n))
+  pub done : laid qs place (spanned t p a b left) ≡ laid ps 0 (between a b (onward t p n))
 
--- ---- the entries of a span, from a bucket on
-module _ (t : Table) (p : Pool) (fo : Forest t p) (a b : ℕ) where
-  abbrev spanned : ℕ → List Entry
-  spanned n = between a b (onward t p n)
+module _ (t : Table) (p : Pool) (fo : Forest t p) (a b n : ℕ) where
+  -- a bucket's entries come before those of the buckets behind it
+  span_step : (x root : ℕ) (xs : List ℕ) → root ≡ root_of t x → spanned t p a b (x ∷ xs) ≡ between a b (entries_at p.nodes root) ++ spanned t p a b xs
+  span_step x root xs e =
+      between_append a b (items_of t p x) (flat_map (items_of t p) xs)
+      ∙ ap (λ r. between a b (entries_at p.nodes r) ++ spanned t p a b xs) (sym e)
 
-  span_last : (n root : ℕ) → among n (order_of t) ≡ true → root ≡ root_of t n → next_of t n ≡ 0 → spanned n ≡ between a b (entries_at p.nodes root)
+  pub counting_starts : (left : List ℕ) → among n (order_of t) ≡ true → left ≡ since n (order_of t) → Counting t p a b n left 0
   unfolding onward
-  span_last n root held e z =
-      ap (between a b) (ap (flat_map (items_of t p)) (since_last t n held z) ∙ append-nil (items_of t p n))
-      ∙ ap (λ r. between a b (entries_at p.nodes r)) (sym e)
+  counting_starts left held e =
+      subst (λ l. Counting t p a b n l 0) (sym e) (record { held = all_held t n held; few = omega (arith, since_few t n); rest = zero-add (length (spanned t p a b (since n (order_of t)))) })
 
-  span_next : (n root : ℕ) → among n (order_of t) ≡ true → root ≡ root_of t n → (next_of t n ≡ 0 → ⊥) → spanned n ≡ between a b (entries_at p.nodes root) ++ spanned (next_of t n)
-  unfolding onward
-  span_next n root held e z =
-      ap (between a b) (ap (flat_map (items_of t p)) (since_next t n held z).is)
-      ∙ (between_append a b (items_of t p n) (onward t p (next_of t n))
-      ∙ ap (λ r. between a b (entries_at p.nodes r) ++ spanned (next_of t n)) (sym e))
+  pub counting_few : (x sum root got : ℕ) (ys xs : List ℕ) → Counting t p a b n ys sum → ys ≡ x ∷ xs → root ≡ root_of t x → got ≡ length (between a b (entries_at p.nodes root)) → sum + got + 512 * length xs ≤ 512 * 128
+  counting_few x sum root got ys xs w is e g = omega (arith, w.few, ap length is, g, span_few a b p.nodes root (here_stands t p fo x (first_held t x ys xs is w.held) root e))
 
-  pub walk_starts : (n : ℕ) → among n (order_of t) ≡ true → Walking t n 0
-  walk_starts n held = record { held = held; left = omega (arith, since_few t n) }
-
-  pub walk_goes : (at turn next : ℕ) → Walking t at turn → next ≡ next_of t at → (next ≡ 0 → ⊥) → Walking t next (turn + 1)
-  walk_goes at turn next w e z =
-      let o = since_next t at w.held (λ q. z (e ∙ q)) in
-      subst (λ m. Walking t m (turn + 1)) (sym e) (record { held = o.held; left = omega (arith, w.left, ap length o.is) })
-
-  -- no order has more than 128 numbers
-  pub walk_ends : (at turn : ℕ) → Walking t at turn → 128 ≤ turn → ⊥
-  walk_ends at turn w h = omega (arith, w.left, since_some t at w.held)
-
-  pub counting_starts : (n : ℕ) → among n (order_of t) ≡ true → Counting t p a b n n 0 0
-  counting_starts n held = record { walk = walk_starts n held; few = omega arith; rest = omega arith }
-
-  pub counting_few : (n at sum turn root got : ℕ) → Counting t p a b n at sum turn → root ≡ root_of t at → got ≡ length (between a b (entries_at p.nodes root)) → sum + got ≤ 512 * (turn + 1)
-  counting_few n at sum turn root got w e g = omega (arith, w.few, g, span_few a b p.nodes root (here_stands t p fo at w.walk.held root e))
-
-  pub counting_goes : (n at sum turn root got next : ℕ) → Counting t p a b n at sum turn → root ≡ root_of t at → got ≡ length (between a b (entries_at p.nodes root)) → next ≡ next_of t at → (next ≡ 0 → ⊥) →
-      Counting t p a b n next (sum + got) (turn + 1)
-  counting_goes n at sum turn root got next w e g en z =
-      let xs = between a b (entries_at p.nodes root) in
-      let q = ap length (span_next at root w.walk.held e (λ q. z (en ∙ q)) ∙ ap (λ m. xs ++ spanned m) (sym en)) in
+  pub counting_goes : (x sum root got : ℕ) (ys xs : List ℕ) → Counting t p a b n ys sum → ys ≡ x ∷ xs → root ≡ root_of t x → got ≡ length (between a b (entries_at p.nodes root)) → Counting t p a b n xs (sum + got)
+  counting_goes x sum root got ys xs w is e g =
       record {
-        walk = walk_goes at turn next w.walk en z;
-        few = counting_few n at sum turn root got w e g;
-        rest = omega (arith, w.rest, g, q, length-append xs (spanned next));
+        held = (subst (AllByRecursion (λ m. among m (order_of t) ≡ true)) is w.held).1;
+        few = counting_few x sum root got ys xs w is e g;
+        rest = omega (arith, w.rest, g, ap (λ l. length (spanned t p a b l)) is, ap length (span_step x root xs e), length-append (between a b (entries_at p.nodes root)) (spanned t p a b xs));
       }
 
-  pub counting_ends : (n at sum turn root got next : ℕ) → Counting t p a b n at sum turn → root ≡ root_of t at → got ≡ length (between a b (entries_at p.nodes root)) → next ≡ next_of t at → next ≡ 0 →
-      sum + got ≡ length (spanned n)
-  counting_ends n at sum turn root got next w e g en z = omega (arith, w.rest, g, ap length (span_last at root w.walk.held e (sym en ∙ z)))
+  pub counting_ends : (sum : ℕ) (ys : List ℕ) → Counting t p a b n ys sum → ys ≡ [] → sum ≡ length (between a b (onward t p n))
+  counting_ends sum ys w is = omega (arith, w.rest, ap (λ l. length (spanned t p a b l)) is)
 
-  pub writing_starts : (n : ℕ) (ps : List Entry) → among n (order_of t) ≡ true → Writing t p a b n n 0 0 ps ps
-  writing_starts n ps held = record { walk = walk_starts n held; rest = omega arith; done = refl }
+  pub writing_starts : (left : List ℕ) (ps : List Entry) → among n (order_of t) ≡ true → left ≡ since n (order_of t) → Writing t p a b n left 0 ps ps
+  unfolding onward
+  writing_starts left ps held e =
+      subst (λ l. Writing t p a b n l 0 ps ps) (sym e) (record { held = all_held t n held; rest = zero-add (length (spanned t p a b (since n (order_of t)))); done = refl })
 
   -- the bucket's entries are among those to be written
-  pub writing_room : (n at place turn root : ℕ) (ps qs : List Entry) → Writing t p a b n at place turn ps qs → root ≡ root_of t at → length (spanned n) ≤ length qs →
+  pub writing_room : (x place root : ℕ) (ys xs : List ℕ) (ps qs : List Entry) → Writing t p a b n ys place ps qs → ys ≡ x ∷ xs → root ≡ root_of t x → length (between a b (onward t p n)) ≤ length qs →
       place + length (between a b (entries_at p.nodes root)) ≤ length qs
-  writing_room n at place turn root ps qs w e h =
-      let xs = between a b (entries_at p.nodes root) in
-      elim (cases_Bool (eqb (next_of t at) 0)) [
-        | inl z ↦ omega (arith, w.rest, ap length (span_last at root w.walk.held e (eqb-true (next_of t at) 0 z)))
-        | inr z ↦ omega (arith, w.rest, ap length (span_next at root w.walk.held e (eqb-false (next_of t at) 0 z)), length-append xs (spanned (next_of t at)))
-      ]
+  writing_room x place root ys xs ps qs w is e h =
+      omega (arith, w.rest, ap (λ l. length (spanned t p a b l)) is, ap length (span_step x root xs e), length-append (between a b (entries_at p.nodes root)) (spanned t p a b xs))
 
-  pub writing_goes : (n at place turn root next end : ℕ) (ps qs rs : List Entry) → Writing t p a b n at place turn ps qs → root ≡ root_of t at →
-      rs ≡ laid qs place (between a b (entries_at p.nodes root)) → end ≡ place + length (between a b (entries_at p.nodes root)) → next ≡ next_of t at → (next ≡ 0 → ⊥) →
-      Writing t p a b n next end (turn + 1) ps rs
-  writing_goes n at place turn root next end ps qs rs w e er ee en z =
-      let xs = between a b (entries_at p.nodes root) in
-      let q = span_next at root w.walk.held e (λ q. z (en ∙ q)) ∙ ap (λ m. xs ++ spanned m) (sym en) in
+  pub writing_goes : (x place root end : ℕ) (ys xs : List ℕ) (ps qs rs : List Entry) → Writing t p a b n ys place ps qs → ys ≡ x ∷ xs → root ≡ root_of t x →
+      rs ≡ laid qs place (between a b (entries_at p.nodes root)) → end ≡ place + length (between a b (entries_at p.nodes root)) → Writing t p a b n xs end ps rs
+  writing_goes x place root end ys xs ps qs rs w is e er ee =
+      let es = between a b (entries_at p.nodes root) in
+      let q = ap (spanned t p a b) is ∙ span_step x root xs e in
       record {
-        walk = walk_goes at turn next w.walk en z;
-        rest = omega (arith, w.rest, ee, ap length q, length-append xs (spanned next));
-        done = ap (λ l. laid l end (spanned next)) er
-            ∙ (ap (λ m. laid (laid qs place xs) m (spanned next)) ee
-            ∙ (sym (laid_join qs place xs (spanned next))
+        held = (subst (AllByRecursion (λ m. among m (order_of t) ≡ true)) is w.held).1;
+        rest = omega (arith, w.rest, ee, ap length q, length-append es (spanned t p a b xs));
+        done = ap (λ l. laid l end (spanned t p a b xs)) er
+            ∙ (ap (λ m. laid (laid qs place es) m (spanned t p a b xs)) ee
+            ∙ (sym (laid_join qs place es (spanned t p a b xs))
             ∙ (ap (laid qs place) (sym q) ∙ w.done)));
       }
 
-  pub writing_ends : (n at place turn root next : ℕ) (ps qs rs : List Entry) → Writing t p a b n at place turn ps qs → root ≡ root_of t at →
-      rs ≡ laid qs place (between a b (entries_at p.nodes root)) → next ≡ next_of t at → next ≡ 0 → length (spanned n) ≤ length ps → rs ≡ over (spanned n) ps
-  writing_ends n at place turn root next ps qs rs w e er en z h =
-      er
-      ∙ (ap (laid qs place) (sym (span_last at root w.walk.held e (sym en ∙ z)))
-      ∙ (w.done ∙ (laid_parts ps 0 (spanned n) (omega arith) ∙ ap (λ m. spanned n ++ drop m ps) (zero-add (length (spanned n))))))
+  pub writing_ends : (place : ℕ) (ys : List ℕ) (ps qs : List Entry) → Writing t p a b n ys place ps qs → ys ≡ [] → length (between a b (onward t p n)) ≤ length ps → qs ≡ over (between a b (onward t p n)) ps
+  writing_ends place ys ps qs w is h =
+      let es = between a b (onward t p n) in
+      ap (λ l. laid qs place (spanned t p a b l)) (sym is)
+      ∙ (w.done ∙ (laid_parts ps 0 es (omega arith) ∙ ap (λ m. es ++ drop m ps) (zero-add (length es))))

@@ -1,22 +1,18 @@
 -- The entries from a bucket on.
 --
---   since n order   the order from the number n on
 --   onward t p n    the entries of the buckets from number n on
 --   over ys ps      places with ys written from the first on
 --   kept_in o       the entries of an index: none where it is shut
-use Rattle.std.specs.Prelude.{ℕ, cond, List, [], ◌∷◌, ◌++◌, length, drop, ◌==◌, Option, None, Some}
+use Rattle.std.specs.Prelude.{ℕ, List, [], ◌++◌, length, drop, Option, None, Some}
 use Rattle.std.specs.List.{flat_map}
 use Rattle.entry.specs.declared.Entry.{Entry}
 use Rattle.avl.specs.declared.pool.Pool.{Pool}
 use Rattle.buckets.specs.declared.Table.{Table}
 use Rattle.buckets.specs.Tables.{order_of}
+use Rattle.buckets.specs.Onwards.{since}
 use Rattle.forest.specs.Forests.{items_of, row_of}
 use Rattle.rules.specs.Buckets.{flat}
 use Rattle.inside.specs.declared.Inside.{Inside}
-
-abbrev pub since : ℕ → List ℕ → List ℕ
-since n [] = []
-since n (x ∷ xs) = cond (x == n) (x ∷ xs) (since n xs)
 
 unfoldable pub onward : Table → Pool → ℕ → List Entry
 onward t p n = flat_map (items_of t p) (since n (order_of t))

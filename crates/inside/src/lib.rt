@@ -15,8 +15,16 @@ pub struct Inside {
 }
 
 // What a change did to the buckets besides, and the frames that it took.
-#[derive(Clone, Copy)]
+#[derive(Clone, Copy, PartialEq, Eq, Debug)]
 pub struct Rebuilt {
     pub frames: u16,
     pub rebuilding: Rebuilding,
+}
+
+impl Rebuilt {
+    // The buckets are as they were.
+    pub const UNCHANGED: Rebuilt = Rebuilt {
+        frames: 0,
+        rebuilding: Rebuilding::Unchanged,
+    };
 }

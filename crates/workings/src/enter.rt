@@ -40,10 +40,7 @@ pub fn enter<K: Key, D: Dictionary>(
     inside.grove.grow(number, new);
     inside.count += 1;
     if inside.grove.table.size(number) as u32 <= 5 * half_width::<K>() {
-        return Rebuilt {
-            frames: 0,
-            rebuilding: Rebuilding::Unchanged,
-        };
+        return Rebuilt::UNCHANGED;
     }
     let frames = split::<K, D>(d, inside, number);
     Rebuilt {

@@ -71,10 +71,7 @@ pub fn leave<K: Key, D: Dictionary>(
     if inside.grove.table.size(number) as u32 >= half_width::<K>()
         || inside.grove.table.count() < 2
     {
-        return Rebuilt {
-            frames: 0,
-            rebuilding: Rebuilding::Unchanged,
-        };
+        return Rebuilt::UNCHANGED;
     }
     let left = if number == 0 {
         0

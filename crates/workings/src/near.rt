@@ -25,8 +25,8 @@ pub fn next_from(grove: &Grove, number: u16, key: u64) -> Found
     let other = grove.table.root(behind);
     let there = trees::first_entry(&grove.pool.nodes, other);
     Found {
-        entry: there.entry,
         visits: here.visits + there.visits,
+        ..there
     }
 }
 
@@ -44,7 +44,7 @@ pub fn last_from(grove: &Grove, number: u16, key: u64) -> Found
     let other = grove.table.root(before);
     let there = trees::last_entry(&grove.pool.nodes, other);
     Found {
-        entry: there.entry,
         visits: here.visits + there.visits,
+        ..there
     }
 }

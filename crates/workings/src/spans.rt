@@ -1,6 +1,6 @@
 // The entries from a first to a second key, both included.
 //
-// The walk goes from bucket to bucket, from that of the first key on, and ends behind the last bucket.
+// The walk goes from bucket to bucket, from that of the first key on to the last bucket.
 ghost use Rattle.std.specs.Prelude.{◌≡◌, ◌≤◌, true, length};
 ghost use Rattle.dictionary.specs.Pairs.{among};
 ghost use Rattle.entry.specs.Lists.{between};
@@ -15,15 +15,10 @@ pub fn count_span(grove: &Grove, number: u16, first: u64, second: u64) -> usize
     requires { among number (order_of grove.now.table) ≡ true }
     ensures { result ≡ length (between first second (onward grove.now.table grove.now.pool number)) }
 {
-    let mut at = number;
     let mut sum = 0;
-    for _ in 0..128u16 {
-        let root = grove.table.root(at);
+    for bucket in grove.table.onward(number) {
+        let root = grove.table.root(bucket);
         sum += trees::count(&grove.pool.nodes, root, first, second);
-        at = grove.table.next(at);
-        if at == 0 {
-            return sum;
-        }
     }
     sum
 }
@@ -34,14 +29,9 @@ pub fn write_span(grove: &Grove, number: u16, first: u64, second: u64, places: &
     requires room { length (between first second (onward grove.now.table grove.now.pool number)) ≤ length places.old }
     ensures { places.new ≡ over (between first second (onward grove.now.table grove.now.pool number)) places.old }
 {
-    let mut at = number;
     let mut place = 0;
-    for _ in 0..128u16 {
-        let root = grove.table.root(at);
+    for bucket in grove.table.onward(number) {
+        let root = grove.table.root(bucket);
         place = trees::span(&grove.pool.nodes, root, first, second, places, place);
-        at = grove.table.next(at);
-        if at == 0 {
-            return;
-        }
     }
 }

@@ -11,7 +11,7 @@ use trees::Found;
 use trie::locate;
 
 // The bucket's number, the frames of the search, and what stands under the key.
-#[derive(Clone, Copy)]
+#[derive(Clone, Copy, PartialEq, Eq, Debug)]
 pub(crate) struct Look {
     pub(crate) number: u16,
     pub(crate) frames: u16,

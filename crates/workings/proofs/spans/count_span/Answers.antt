@@ -1,48 +1,48 @@
-use Rattle.std.proofs.Common.{arith}
+use Rattle.std.proofs.Common.{◌≡◌, true, sym, ap, ◌∙◌, subst, arith}
+use Rattle.dictionary.specs.Pairs.{among}
+use Rattle.buckets.specs.Tables.{order_of}
+use Rattle.buckets.specs.Onwards.{left, Stands}
 use Rattle.buckets.proofs.Lays.{small}
 use Rattle.inside.proofs.Near.{here_stands}
-use Rattle.inside.proofs.Spans.{walk_ends, counting_starts, counting_few, counting_goes, counting_ends}
+use Rattle.inside.proofs.Spans.{first_held, counting_starts, counting_few, counting_goes}
 use Rattle.workings.proofs.spans.count_span.Goals as goal
+use Rattle.workings.proofs.spans.count_span.Goals.{In-Some}
 
-pub loop-init : goal.loop-init
-loop-init c =
+held : (c : In-Some) → among c.in-Some.bucket (order_of c.args.grove.now.table) ≡ true
+held c = first_held c.args.grove.now.table c.in-Some.bucket _ _ c.in-Some.ensures.steps c.loop-bucket.invariant.2.held
+
+pub loop-bucket-init : goal.loop-bucket-init
+loop-bucket-init c =
     let i = c.args.grove.now in
-    counting_starts i.table i.pool c.args.grove.now.forest c.args.first c.args.second c.args.number c.requires
+    let e = c.into_iter-bucket-iterator.ensures.into_iter_gives in (
+      subst Stands (sym e) c.onward-bucket-items.ensures.stands,
+      tt,
+      counting_starts i.table i.pool i.forest c.args.first c.args.second c.args.number _ c.requires (ap left e ∙ c.onward-bucket-items.ensures.left),
+    )
 
 pub root-root-requires : goal.root-root-requires
-root-root-requires c =
-    let t = c.args.grove.now.table in
-    small t c.loop.at c.loop.invariant.walk.held
+root-root-requires c = small c.args.grove.now.table c.in-Some.bucket (held (goal.at.root-root-requires c).In-Some)
 
 pub count-sum-requires : goal.count-sum-requires
 count-sum-requires c =
     let i = c.args.grove.now in
-    here_stands i.table i.pool c.args.grove.now.forest c.loop.at c.loop.invariant.walk.held c.root-root.result c.root-root.ensures
+    here_stands i.table i.pool i.forest c.in-Some.bucket (held (goal.at.count-sum-requires c).In-Some) c.root-root.result c.root-root.ensures
 
 pub overflow_add-sum : goal.overflow_add-sum
 overflow_add-sum c =
     let i = c.args.grove.now in
-    let few = counting_few i.table i.pool c.args.grove.now.forest c.args.first c.args.second c.args.number c.loop.at c.loop.sum c.loop.counter c.root-root.result c.count-sum.result c.loop.invariant c.root-root.ensures c.count-sum.ensures in
-    omega (arith, few, c.loop-test.true)
+    omega (
+      arith,
+      counting_few i.table i.pool i.forest c.args.first c.args.second c.args.number c.in-Some.bucket c.loop-bucket.sum c.root-root.result c.count-sum.result _ _
+          c.loop-bucket.invariant.2 c.in-Some.ensures.steps c.root-root.ensures c.count-sum.ensures,
+    )
 
-pub next-at-requires : goal.next-at-requires
-next-at-requires c =
-    let t = c.args.grove.now.table in
-    small t c.loop.at c.loop.invariant.walk.held
-
-pub returns-then-at-eq0 : goal.returns-then-at-eq0
-returns-then-at-eq0 c =
+pub loop-bucket-preserved : goal.loop-bucket-preserved
+loop-bucket-preserved c =
     let i = c.args.grove.now in
-    counting_ends i.table i.pool c.args.grove.now.forest c.args.first c.args.second c.args.number c.loop.at c.loop.sum c.loop.counter c.root-root.result c.count-sum.result c.next-at.result
-    c.loop.invariant c.root-root.ensures c.count-sum.ensures c.next-at.ensures c.if-at-eq0.true
-
-pub loop-preserved : goal.loop-preserved
-loop-preserved c =
-    let i = c.args.grove.now in
-    counting_goes i.table i.pool c.args.grove.now.forest c.args.first c.args.second c.args.number c.loop.at c.loop.sum c.loop.counter c.root-root.result c.count-sum.result c.next-at.result
-    c.loop.invariant c.root-root.ensures c.count-sum.ensures c.next-at.ensures c.if-at-eq0.false
-
-pub returns : goal.returns
-returns c =
-    let i = c.args.grove.now in
-    absurd (walk_ends i.table i.pool c.args.grove.now.forest c.args.first c.args.second c.loop.at c.loop.counter c.loop.invariant.walk c.loop-test.false)
+    let on = c.in-Some.ensures.goes.on tt in (
+      on.0,
+      tt,
+      counting_goes i.table i.pool i.forest c.args.first c.args.second c.args.number c.in-Some.bucket c.loop-bucket.sum c.root-root.result c.count-sum.result _ _
+          c.loop-bucket.invariant.2 c.in-Some.ensures.steps c.root-root.ensures c.count-sum.ensures,
+    )

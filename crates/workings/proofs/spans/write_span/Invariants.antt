@@ -1,5 +1,9 @@
+use Rattle.buckets.specs.Onwards.{left}
 use Rattle.inside.proofs.Spans.{Writing}
 use Rattle.workings.proofs.spans.write_span.Given as goal
 
-abbrev pub invariant-loop : goal.invariant-loop
-invariant-loop l = Writing l.grove.table l.grove.pool l.first l.second l.number l.at l.place l.counter l.initial.places l.places
+abbrev pub invariant-loop-bucket : goal.invariant-loop-bucket
+invariant-loop-bucket l =
+    (goal.iterator-loop-bucket).can_next l.bucket-iterator ×
+    (goal.iterator-loop-bucket).is_finite l.bucket-iterator ×
+    Writing l.grove.table l.grove.pool l.first l.second l.number (left l.bucket-iterator) l.place l.initial.places l.places
