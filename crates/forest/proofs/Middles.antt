@@ -1,12 +1,12 @@
 -- A bucket's nodes from its middle on.
 --
---   Parted, parted  the nodes cut in two at the middle
---   middle_inside, middle_small, middle_is  the middle of the row, the node there, and its key
+--   Parted, parted, halving  the nodes cut in two at the middle
+--   middle_inside, middle_is  the node in the middle, and its key
 --   halve_low, halve_high  the halves can be built
 --   halved         the forest after they were
-use Rattle.std.proofs.Common.{◌≡◌, ℕ, zero, suc, ◌+◌, ◌/◌, ◌<◌, ◌≤◌, true, List, [], ◌∷◌, ◌++◌, map, length, get_or, take, drop, sym, refl, ap, ◌∙◌, subst, arith}
+use Rattle.std.proofs.Common.{◌≡◌, ℕ, zero, suc, ◌+◌, ◌/◌, ◌<◌, ◌≤◌, true, List, [], ◌∷◌, ◌++◌, map, length, get_or, take, drop, sym, refl, ap, ◌∙◌, subst, arith, length-drop}
 use Rattle.std.proofs.ByRecursion.{All-get_or}
-use Rattle.std.proofs.lemmas.List.{take-append-drop, get_or-map, take-map, drop-map, length-map, nil_from_length}
+use Rattle.std.proofs.lemmas.List.{take-append-drop, take-append-le, drop-append-le, take_at, get_or_append_left, get_or-map, take-map, drop-map, length-map, nil_from_length}
 use Rattle.dictionary.specs.Pairs.{among}
 use Rattle.entry.specs.declared.Entry.{Entry}
 use Rattle.entry.specs.Lists.{first, blank}
@@ -25,11 +25,12 @@ use Rattle.avl.specs.Builds.{Order, Built}
 use Rattle.avl.proofs.Builds.{map_kept, order_tree, order_parts, order_kept}
 use Rattle.forest.specs.Forests.{items_of, places_of, Forest, Halved}
 use Rattle.forest.proofs.Alters.{stand, Written}
+use Rattle.forest.proofs.Walks.{Walked}
 use Rattle.forest.proofs.Rebuilds.{Both, both}
 
-pub record Parted (t : Table) (p : Pool) (n : ℕ) (lower upper : List ℕ) : Type 0 where
-  pub low : lower ≡ take (length (items_of t p n) / 2) (places_of t p n)
-  pub high : upper ≡ drop (length (items_of t p n) / 2) (places_of t p n)
+pub record Parted (t : Table) (p : Pool) (n h : ℕ) (lower upper : List ℕ) : Type 0 where
+  pub low : lower ≡ take h (places_of t p n)
+  pub high : upper ≡ drop h (places_of t p n)
 
 first_drop : (h : ℕ) (es : List Entry) → first (drop h es) ≡ get_or es h blank
 first_drop zero [] = refl
@@ -37,41 +38,46 @@ first_drop zero (e ∷ es) = refl
 first_drop (suc h) [] = refl
 first_drop (suc h) (e ∷ es) = first_drop h es
 
--- the row of a bucket's nodes, and its middle
-module _ (t : Table) (p : Pool) (n count : ℕ) (row : List ℕ) (f : Forest t p) (i : among n (order_of t) ≡ true) (w : row ≡ places_of t p n) (long : count ≡ length (places_of t p n)) where
-  halving : count / 2 ≡ length (items_of t p n) / 2
-  halving = ap (λ z. z / 2) (long ∙ places_long (tree_at p.nodes (root_of t n)))
+-- a place of the row, which is the middle
+module _ (t : Table) (p : Pool) (n count h : ℕ) (row : List ℕ) (f : Forest t p) (i : among n (order_of t) ≡ true) (w : Walked (places_of t p n) count row) (half : h ≡ count / 2) where
+  pub halving : h ≡ length (items_of t p n) / 2
+  halving = half ∙ ap (λ z. z / 2) (w.counted ∙ places_long (tree_at p.nodes (root_of t n)))
 
-  pub parted : (lower upper : List ℕ) → lower ≡ take (count / 2) row → upper ≡ drop (count / 2) row → Parted t p n lower upper
-  parted lower upper a b = record { low = a ∙ (λ d. take (halving d) (w d)); high = b ∙ (λ d. drop (halving d) (w d)) }
+  -- the row cut in front of the middle, and behind the nodes
+  pub parted : (more : ℕ) (lower rest upper : List ℕ) → more + h ≡ count → lower ≡ take h row → rest ≡ drop h row → upper ≡ take more rest → Parted t p n h lower upper
+  parted more lower rest upper all a b c =
+      let le : h ≤ length (places_of t p n) = omega (arith, w.counted) in
+      record {
+        low = a ∙ ap (take h) w.begins ∙ take-append-le h (places_of t p n) w.back le;
+        high = c
+            ∙ ap (take more) (b ∙ ap (drop h) w.begins ∙ drop-append-le h (places_of t p n) w.back le)
+            ∙ take_at (drop h (places_of t p n)) w.back more (omega (arith, length-drop h (places_of t p n), w.counted));
+      }
 
   module _ (some : 1 ≤ length (items_of t p n)) where
-    short : count / 2 < length (places_of t p n)
-    short = omega (arith, long, places_long (tree_at p.nodes (root_of t n)))
+    short : h < length (places_of t p n)
+    short = omega (arith, w.counted, places_long (tree_at p.nodes (root_of t n)))
 
-    pub middle_inside : count / 2 < length row
-    middle_inside = omega (arith, short, ap length w)
+    middle_at : get_or row h 0 ≡ get_or (places_of t p n) h 0
+    middle_at = ap (λ l. get_or l h 0) w.begins ∙ get_or_append_left (places_of t p n) w.back 0 h short
 
-    pub middle_small : get_or row (count / 2) 0 < 512
-    middle_small =
+    pub middle_inside : get_or row h 0 < 512
+    middle_inside =
         let o = order_tree p.nodes (root_of t n) (stand t p f n i) in
-        rw w (All-get_or (λ x. x < 512) (places_of t p n) (count / 2) 0 short (times_all (λ x. x < 512) (places_of t p n) (λ m z. omega (arith, o.inside m z, o.few))))
+        rw middle_at (All-get_or (λ x. x < 512) (places_of t p n) h 0 short (times_all (λ x. x < 512) (places_of t p n) (λ m z. omega (arith, o.inside m z, o.few))))
 
-    pub middle_is : (node_at p.nodes (get_or row (count / 2) 0)).key ≡ (first (drop (length (items_of t p n) / 2) (items_of t p n))).key
+    pub middle_is : (node_at p.nodes (get_or row h 0)).key ≡ (first (drop (length (items_of t p n) / 2) (items_of t p n))).key
     middle_is =
-        ap (λ l. (node_at p.nodes (get_or l (count / 2) 0)).key) w
+        ap (λ z. (node_at p.nodes z).key) middle_at
         ∙ ap (λ (x : Entry). x.key) (sym (
         ap (λ z. first (drop z (items_of t p n))) (sym halving)
-        ∙ first_drop (count / 2) (items_of t p n)
-        ∙ ap (λ l. get_or l (count / 2) blank) (entries_are p.nodes (tree_at p.nodes (root_of t n)) (stand t p f n i).lies)
-        ∙ get_or-map (entry_at p.nodes) (places_of t p n) (count / 2) 0 blank short
+        ∙ first_drop h (items_of t p n)
+        ∙ ap (λ l. get_or l h blank) (entries_are p.nodes (tree_at p.nodes (root_of t n)) (stand t p f n i).lies)
+        ∙ get_or-map (entry_at p.nodes) (places_of t p n) h 0 blank short
         ))
 
 -- a bucket's nodes, cut in two
-module _ (t : Table) (p : Pool) (n k : ℕ) (ls us : List ℕ) (f : Forest t p) (i : among n (order_of t) ≡ true) (c : Parted t p n ls us) where
-  abbrev h : ℕ
-  h = length (items_of t p n) / 2
-
+module _ (t : Table) (p : Pool) (n k h : ℕ) (ls us : List ℕ) (f : Forest t p) (i : among n (order_of t) ≡ true) (c : Parted t p n h ls us) where
   whole : ls ++ us ≡ places_of t p n
   whole = (λ d. c.low d ++ c.high d) ∙ take-append-drop h (places_of t p n)
 
@@ -121,5 +127,8 @@ module _ (t : Table) (p : Pool) (n k : ℕ) (ls us : List ℕ) (f : Forest t p) 
           long_high : length us ≡ length (drop h (items_of t p n))
           long_high = sym (length-map us (entry_at ms)) ∙ ap length (sym bb.holds ∙ high_holds)
 
-      pub halved : Forest u q × Halved t p u q n k
-      halved = (halves.forest, record { kept = halves.kept; lower = halves.one; upper = halves.other })
+      pub halved : h ≡ length (items_of t p n) / 2 → Forest u q × Halved t p u q n k
+      halved e = (
+        halves.forest,
+        record { kept = halves.kept; lower = halves.one ∙ ap (λ z. take z (items_of t p n)) e; upper = halves.other ∙ ap (λ z. drop z (items_of t p n)) e },
+      )

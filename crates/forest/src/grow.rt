@@ -9,8 +9,6 @@ use crate::Grove;
 use avl::insert;
 use entry::Entry;
 
-// The number of a bucket that stands is small enough for each call of the table.
-#[tactic(auto, using(buckets::proofs::Lays::small))]
 impl Grove {
     // Puts a new entry into the tree of a bucket, at a free node.
     pub fn grow(&mut self, number: u16, new: Entry)

@@ -6,12 +6,9 @@ ghost use Rattle.buckets.specs.Tables.{order_of};
 ghost use Rattle.forest.specs.Forests.{items_of, Halved};
 
 use crate::Grove;
-use arrayvec::ArrayVec;
 use avl::build;
 use trees::walk;
 
-// The number of a bucket that stands is small enough for each call of the table.
-#[tactic(auto, using(buckets::proofs::Lays::small))]
 impl Grove {
     // The lowest key of a bucket's upper half.
     pub fn middle_key(&self, number: u16) -> u64
@@ -19,9 +16,9 @@ impl Grove {
         requires some { 1 ≤ length (items_of self.now.table self.now.pool number) }
         ensures { result ≡ (first (drop (length (items_of self.now.table self.now.pool number) / 2) (items_of self.now.table self.now.pool number))).key }
     {
-        let mut row = ArrayVec::new();
-        walk(&self.pool.nodes, self.table.root(number), &mut row);
-        self.pool.nodes[row[row.len() / 2] as usize].key
+        let mut row = [0u16; 512];
+        let count = walk(&self.pool.nodes, self.table.root(number), &mut row, 0);
+        self.pool.nodes[row[count / 2] as usize].key
     }
 
     // The upper half of a bucket's nodes becomes the tree of another bucket, which has none yet.
@@ -33,9 +30,10 @@ impl Grove {
         ensures { Halved self.old.table self.old.pool self.new.table self.new.pool number other }
     {
         let Grove { table, pool } = self;
-        let mut row = ArrayVec::new();
-        walk(&pool.nodes, table.root(number), &mut row);
-        let (lower, upper) = row.split_at(row.len() / 2);
+        let mut row = [0u16; 512];
+        let count = walk(&pool.nodes, table.root(number), &mut row, 0);
+        let (lower, rest) = row.split_at(count / 2);
+        let (upper, _) = rest.split_at(count - count / 2);
         let low_root = build(&mut pool.nodes, lower);
         let high_root = build(&mut pool.nodes, upper);
         table.set_root(number, low_root);

@@ -8,8 +8,6 @@ ghost use Rattle.forest.specs.Forests.{items_of, Replanted};
 use crate::Grove;
 use avl::remove;
 
-// The number of a bucket that stands is small enough for each call of the table.
-#[tactic(auto, using(buckets::proofs::Lays::small))]
 impl Grove {
     // Takes the entry of a held key out of the tree of its bucket, and its node back into the pool.
     pub fn shrink(&mut self, number: u16, key: u64)

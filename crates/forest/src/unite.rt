@@ -6,13 +6,10 @@ ghost use Rattle.buckets.specs.Tables.{order_of};
 ghost use Rattle.forest.specs.Forests.{items_of, United};
 
 use crate::Grove;
-use arrayvec::ArrayVec;
 use avl::build;
 use buckets::NO_TREE;
 use trees::walk;
 
-// The number of a bucket that stands is small enough for each call of the table.
-#[tactic(auto, using(buckets::proofs::Lays::small))]
 impl Grove {
     // All nodes of a bucket and of the one behind it become the tree of the first; the other has none.
     pub fn unite(&mut self, number: u16, other: u16)
@@ -23,12 +20,13 @@ impl Grove {
         ensures { United self.old.table self.old.pool self.new.table self.new.pool number other }
     {
         let Grove { table, pool } = self;
-        let mut row = ArrayVec::new();
-        walk(&pool.nodes, table.root(number), &mut row);
-        walk(&pool.nodes, table.root(other), &mut row);
-        let root = build(&mut pool.nodes, &row);
+        let mut row = [0u16; 512];
+        let middle = walk(&pool.nodes, table.root(number), &mut row, 0);
+        let count = walk(&pool.nodes, table.root(other), &mut row, middle);
+        let (all, _) = row.split_at(count);
+        let root = build(&mut pool.nodes, all);
         table.set_root(number, root);
-        table.set_size(number, row.len() as u16);
+        table.set_size(number, count as u16);
         table.set_root(other, NO_TREE);
         table.set_size(other, 0);
     }

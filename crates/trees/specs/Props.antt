@@ -6,7 +6,7 @@ use Rattle.entry.specs.Props.{Rising-prop}
 use Rattle.trees.specs.contracts.Node as node_row
 use Rattle.trees.specs.declared.Node.{Node}
 use Rattle.trees.specs.Trees.{Tree, leaf, node, Balanced}
-use Rattle.trees.specs.Pools.{Lies, Standing}
+use Rattle.trees.specs.Pools.{Lies, Stands, Standing}
 
 pub Balanced-prop : (t : Tree) → IsProp (Balanced t)
 Balanced-prop leaf = Unit-prop

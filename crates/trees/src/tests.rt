@@ -1,7 +1,6 @@
 // Worked numbers, on a pool of three nodes with the keys 10, 20 and 30.
 
 use crate::*;
-use arrayvec::ArrayVec;
 use entry::Entry;
 use std::test::Fail;
 
@@ -59,10 +58,9 @@ fn spans_and_walks(rt: HostRuntime) -> Result<(), Fail> {
     let mut out = [other; 4];
     assert_eq!(rt; span(&nodes, 0, 10, 20, &mut out, 1), 3);
     assert_eq!(rt; out, [other, TEN, TWENTY, other]);
-    let mut row = ArrayVec::<u16, 512>::new();
-    walk(&nodes, 0, &mut row);
-    assert_eq!(rt; row.len(), 3);
-    assert_eq!(rt; row.as_slice(), [1u16, 0, 2].as_slice());
+    let mut row = [9u16; 3];
+    assert_eq!(rt; walk(&nodes, 0, &mut row, 0), 3);
+    assert_eq!(rt; row, [1, 0, 2]);
     Ok(())
 }
 

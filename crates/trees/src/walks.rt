@@ -1,22 +1,23 @@
 // The indices of a tree's nodes, from left to right.
 
-ghost use Rattle.std.specs.Prelude.{◌≡◌, ◌+◌, ◌≤◌, ◌++◌, length};
+ghost use Rattle.std.specs.Prelude.{◌≡◌, ◌+◌, ◌≤◌, length};
 ghost use Rattle.trees.specs.Pools.{Standing, places_at};
+ghost use Rattle.trees.specs.Answers.{laid};
 
 use crate::{NONE, Node};
-use arrayvec::ArrayVec;
 
-// Puts the indices behind those that the row has.
-pub fn walk(nodes: &[Node], root: u16, row: &mut ArrayVec<u16, 512>)
+// Writes the indices into the places from start on, and answers the place after them.
+pub fn walk(nodes: &[Node], root: u16, row: &mut [u16], start: usize) -> usize
     requires tree { Standing nodes.now root }
-    requires room { length row.old.items + length (places_at nodes.now root) ≤ 512 }
-    ensures { row.new.items ≡ row.old.items ++ places_at nodes.now root }
+    requires room { start + length (places_at nodes.now root) ≤ length row.old }
+    ensures places { row.new ≡ laid row.old start (places_at nodes.now root) }
+    ensures end { result ≡ start + length (places_at nodes.now root) }
 {
     if root == NONE {
-        return;
+        return start;
     }
     let here = nodes[root as usize];
-    walk(nodes, here.left, row);
-    row.push(root);
-    walk(nodes, here.right, row);
+    let middle = walk(nodes, here.left, row, start);
+    row[middle] = root;
+    walk(nodes, here.right, row, middle + 1)
 }

@@ -1,7 +1,11 @@
 use Rattle.std.proofs.Common.{ap, arith}
+use Rattle.buckets.proofs.Lays.{small}
 use Rattle.forest.proofs.Alters.{unwritten, root_set, size_set}
 use Rattle.forest.proofs.Plants.{shrink_ready, one_more, left, give_ready, shrunk}
 use Rattle.forest.proofs.Grove.shrink.Goals as goal
+
+pub root-root-requires : goal.root-root-requires
+root-root-requires c = small c.args.self.now.table c.args.number c.requires.stands
 
 pub remove-shrunk-requires : goal.remove-shrunk-requires
 remove-shrunk-requires c =
@@ -15,6 +19,12 @@ give-requires c = (
       c.remove-shrunk.new.nodes c.remove-shrunk.result c.remove-shrunk.ensures,
 )
 
+pub set_root-requires : goal.set_root-requires
+set_root-requires c = small c.args.self.now.table c.args.number c.requires.stands
+
+pub size-size-requires : goal.size-size-requires
+size-size-requires c = small c.args.self.now.table c.args.number c.requires.stands
+
 pub overflow_sub-size : goal.overflow_sub-size
 overflow_sub-size c = omega (
   arith,
@@ -23,6 +33,9 @@ overflow_sub-size c = omega (
   one_more c.args.self.now.table c.args.self.now.pool c.args.number c.root-root.result c.args.key c.args.self.now.forest c.requires.stands c.requires.held c.root-root.ensures
       c.remove-shrunk.new.nodes c.remove-shrunk.result c.remove-shrunk.ensures,
 )
+
+pub set_size-requires : goal.set_size-requires
+set_size-requires c = small c.args.self.now.table c.args.number c.requires.stands
 
 pub invariant_of-self : goal.invariant_of-self
 invariant_of-self c =

@@ -11,4 +11,4 @@ pub span-requires : goal.span-requires
 span-requires g c = record { tree = small_stands; room = omega (arith, ap (λ t. length (between 10 20 (entries t))) small_is) }
 
 pub walk-requires : goal.walk-requires
-walk-requires g c = record { tree = small_stands; room = omega (arith, ap length c.new-row.ensures, ap (λ t. length (places t)) small_is) }
+walk-requires g c = record { tree = small_stands; room = omega (arith, ap (λ t. length (places t)) small_is) }
