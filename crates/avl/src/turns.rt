@@ -1,7 +1,8 @@
 // One node above two balanced trees: hung there, or turned so that the whole is balanced.
 //
 // No node is ever half written: hang gives a node both children and the height that follows from them.
-// Each of the four turns is one crown: three nodes and four trees in the order a x b m c y d, with m on top.
+// The node and its two trees are handed on as they are: a struct of them would be made and taken apart in
+// each call. Each of the four turns is one crown: three nodes and four trees in the order a x b m c y d, with m on top.
 
 ghost use Rattle.std.specs.Prelude.{◌≡◌, ◌+◌, ◌<◌, ◌≤◌, length, ◌≢◌};
 ghost use Rattle.trees.specs.Trees.{tall};

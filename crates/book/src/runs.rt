@@ -37,6 +37,7 @@ pub fn run<B: Ledger>(book: &mut B, script: &[u8], answers: &mut [u8]) -> usize
     ensures count { result ≡ parts (length script.now) }
     ensures ran { Ran (B.Ledger.view book.old) script.now answers.old result answers.new (B.Ledger.view book.new) }
 {
+    // by index: nothing is known of bytes written through `chunks_mut` or an adapter of it
     for (i, part) in script.chunks(32).enumerate() {
         answers[32 * i..32 * i + 32].copy_from_slice(&answer(book, part));
     }

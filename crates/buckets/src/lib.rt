@@ -3,6 +3,9 @@
 // Bucket number 0 is always the first and is never closed, so the buckets that stand are a ring
 // through it, linked both ways: there is no sentinel and no case for the last. The free records are
 // chained through the same `next`. Each number is in the ring or in that chain, once (`stands`).
+// A bucket's number is no type of its own: whether a bucket of that number stands ends with each `close`,
+// and numbers come out of the dictionary as plain links. So the calls ask for what they need of it.
+// The free records are a chain and no row beside, since a record has the link already.
 // The table knows representatives, sizes and the roots of trees as numbers, and asks nothing of them.
 #![tactic(auto)]
 

@@ -35,6 +35,7 @@ pub trait Key: Sized + Ord {
         Self::WIDTH
     }
 
+    // Not by `From` and `TryFrom`: the laws on the two are the trait's own.
     fn to_bits(&self) -> u64
         ensures { result ≡ bits self.now };
 

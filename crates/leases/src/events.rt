@@ -1,4 +1,4 @@
-// Events that fall due.
+// Events that fall due. The index is not shut: the book has looked.
 ghost use Rattle.std.specs.Prelude.{◌≡◌, ◌<◌, false};
 ghost use Rattle.leases.specs.Plans.{Planned};
 ghost use Rattle.leases.specs.Commands.{due_plan};

@@ -1,5 +1,5 @@
 // The lease index, in which no two standing leases share a station, and the commands on it. Each asks
-// that the index is not shut.
+// that the index is not shut: the book has looked at all three, and a shut book answers for them.
 ghost use Rattle.std.specs.Prelude.{◌≡◌, ◌^◌, ◌<◌, false, None};
 ghost use Rattle.leases.specs.Checks.{unfit};
 ghost use Rattle.leases.specs.Plans.{Planned};

@@ -27,6 +27,7 @@ pub enum Rebuilding {
 }
 
 impl Rebuilding {
+    // Its discriminant, with the contract that a cast has not.
     pub fn number(self) -> u8
         ensures { result ≡ rebuilding_number self }
     {

@@ -45,6 +45,7 @@ pub enum Refusal {
 }
 
 impl Refusal {
+    // Its discriminant, with the contract that a cast has not.
     pub fn number(self) -> u8
         ensures { result ≡ number self }
     {

@@ -25,7 +25,8 @@ impl From<Refusal> for Refused {
     }
 }
 
-// Whether a record may stand after the one before it.
+// Whether a record may stand after the one before it: by the numbers of the format, as records are sorted
+// by them, also where no command has the code.
 fn in_turn(before: Option<Record>, form: Record) -> bool
     ensures { result ≡ in_turn before form }
 {

@@ -11,7 +11,8 @@ use leases::stretch::{finish, holder};
 use ordered::Refusal;
 use wire::Record;
 
-// The record of an entry.
+// The record of an entry, by the codes of the format: a command made of the entry first would need its
+// holder proved to be one.
 fn form(part: Part, entry: Entry) -> Record
     requires { entry.key < 2 ^ 60 }
     ensures { result ≡ form_of part entry }
@@ -35,6 +36,7 @@ fn write(part: Part, entries: &[Entry], out: &mut [u8], at: usize)
     requires room { at + 32 * length entries.now ≤ length out.old }
     ensures { out.new ≡ take at out.old ++ (wires (forms part entries.now) ++ drop (at + 32 * length entries.now) out.old) }
 {
+    // by index: nothing is known of bytes written through `chunks_mut` or an adapter of it
     for (i, entry) in entries.iter().enumerate() {
         let start = at + 32 * i;
         let bytes = form(part, *entry).to_bytes();
@@ -42,13 +44,14 @@ fn write(part: Part, entries: &[Entry], out: &mut [u8], at: usize)
     }
 }
 
-// Writes the records of one part of a book, and tells the place after them.
+// Writes the records of one part of a book, from a place of the caller's buffer on, and tells the place after them.
 fn write_part<B: Ledger>(book: &B, part: Part, out: &mut [u8], at: usize) -> usize
     requires unshut { is_shut (B.Ledger.view book.now) ≡ false }
     requires room { at + 32 * length (look part (B.Ledger.view book.now)).entries ≤ length out.old }
     ensures place { result ≡ at + 32 * length (look part (B.Ledger.view book.now)).entries }
     ensures bytes { out.new ≡ take at out.old ++ (wires (forms part (look part (B.Ledger.view book.now)).entries) ++ drop result out.old) }
 {
+    // all that a part may hold: there is no heap
     let mut places = [Entry { key: 0, note: 0 }; 256];
     book.list(part, &mut places);
     let count = book.len(part);

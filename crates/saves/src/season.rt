@@ -47,6 +47,7 @@ pub fn season<B: Ledger>(book: &mut B, tape: &[u8], deeds: &[Deed], outcomes: &m
     ensures { Seasoned (B.Ledger.view book.old) tape.now deeds.now outcomes.old outcomes.new (B.Ledger.view book.new) }
 {
     let mut at = 0;
+    // by index: nothing is known of an element written through an adapter of `iter_mut`
     for (i, deed) in deeds.iter().enumerate() {
         let end = at + deed.length().min(tape.len() - at);
         outcomes[i] = act(book, *deed, &tape[at..end]);

@@ -6,7 +6,8 @@ ghost use Rattle.slots.specs.Slots.{node_at, links_of, pairs_of, nodes_of, held,
 
 use crate::Slot;
 
-// Rows of slots in which each node stands at most once.
+// Rows of slots in which each node stands at most once. That a node is not 0 is asked for: a dictionary's
+// calls take any number and refuse 0, so the module looks once.
 pub trait Layout: Sized {
     // every slot, row after row
     ghost rows: { Self → List Slot_of };

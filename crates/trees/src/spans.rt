@@ -1,4 +1,5 @@
-// The entries of a span of keys, both ends included, written out in rising order.
+// The entries of a span of keys, both ends included, written out in rising order, into places that are
+// the caller's: how far they are filled is the answer, since no vector of ours could hold them.
 
 ghost use Rattle.std.specs.Prelude.{◌≡◌, ◌+◌, ◌≤◌, length};
 ghost use Rattle.entry.specs.Lists.{between};

@@ -6,6 +6,9 @@ ghost use Rattle.trees.specs.Answers.{laid};
 
 use crate::{NONE, Node};
 
+// Over a vector of any fixed capacity the check did not prove the recursion, and one of 512 would ask
+// more of callers, so the row and its end stay two.
+//
 // Writes the indices into the places from start on, and answers the place after them.
 pub fn walk(nodes: &[Node], root: u16, row: &mut [u16], start: usize) -> usize
     requires tree { Standing nodes.now root }

@@ -14,6 +14,7 @@ pub struct Record {
     pub note: u64,
 }
 
+// `to_bytes` and `from_bytes` are std's names for a format, as in `u64::from_be_bytes`.
 impl Record {
     pub fn to_bytes(self) -> [u8; 32]
         ensures { result ≡ wire self }

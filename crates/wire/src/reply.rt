@@ -5,6 +5,7 @@ ghost use Rattle.wire.specs.Replies.{reply as reply_of};
 use entry::Entry;
 use ordered::Answer;
 
+// The code is a number, since it may be that of no command.
 pub fn reply(code: u8, answer: Answer) -> [u8; 32]
     ensures { result ≡ reply_of code answer }
 {

@@ -3,7 +3,7 @@
 //
 // These functions ask of their caller that the levels and the buckets tie in; that the trees do is in
 // the grove's type. An index keeps its inside to itself and sees to that, so none of its callers meets
-// these conditions. No type carries the levels: the dictionary of a shut index was never set up.
+// these conditions. Keys are bits that fit, as the calls of an index have looked; no type carries the levels: the dictionary of a shut index was never set up.
 #![tactic(auto)]
 
 pub mod enter;

@@ -1,4 +1,5 @@
-// The highest entry at or below a key. As next, but for the three words that say the side.
+// The highest entry at or below a key. One function for it and next would take the side, the call's word
+// and its walk as three arguments, and each clause by cases.
 ghost use Rattle.std.specs.Prelude.{◌≡◌, is_none, []};
 ghost use Rattle.ordered.specs.declared.calls.Call.TheVariants.{Last};
 ghost use Rattle.inside.specs.Whole.{Does, limit_of, state_of};

@@ -22,6 +22,7 @@ impl<K: Key, D: Dictionary> YFast<K, D> {
         ensures room { D.Dictionary.room self.new.dictionary ≡ D.Dictionary.room self.old.dictionary }
     {
         let number = calls.len().min(answers.len());
+        // by index: nothing is known of an element written through an adapter of `iter_mut`
         for (i, call) in calls[..number].iter().enumerate() {
             answers[i] = self.call(*call, places);
         }
