@@ -14,10 +14,8 @@ pub mod sizes;
 pub mod station;
 pub mod zone;
 
-pub trait Key: Sized + Ord {
+pub trait Key: Sized {
     const WIDTH: u32;
-
-    ghost WIDTH: { ℕ };
 
     ghost width: { ℕ };
 
@@ -30,10 +28,7 @@ pub trait Key: Sized + Ord {
     ghost before: { Self → Self → Bool };
 
     fn bit_width() -> u32
-        ensures { result ≡ width }
-    {
-        Self::WIDTH
-    }
+        ensures { result ≡ width };
 
     // Not by `From` and `TryFrom`: the laws on the two are the trait's own.
     fn to_bits(&self) -> u64
@@ -46,14 +41,8 @@ pub trait Key: Sized + Ord {
     fn is_before(&self, other: &Self) -> bool
         ensures { result ≡ before self.now other.now }
     {
-        self < other
+        self.to_bits() < other.to_bits()
     }
-
-    // the constant is the width
-    ghost constant: { WIDTH ≡ width };
-
-    // the derived order is the kind's own
-    ghost compared: { (a b : Self) → is_lt (Self.Ord.cmp a b) ≡ before a b };
 
     ghost wide: { (8 ≤ width) × (width ≤ 60) };
 
@@ -66,6 +55,11 @@ pub trait Key: Sized + Ord {
     ghost every: { (n : ℕ) → n < 2 ^ width → is_some (key n) ≡ true };
 
     ghost ordered: { (a b : Self) → before a b ≡ nat_lt (bits a) (bits b) };
+}
+
+// A kind whose derived order is its own. Apart from `Key`, which asks no kind for an `Ord`.
+pub trait OwnOrder: Key + Ord {
+    ghost compared: { (a b : Self) → is_lt (Self.Ord.cmp a b) ≡ Self.before a b };
 }
 
 #[cfg(test)]

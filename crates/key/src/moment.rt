@@ -7,13 +7,11 @@ ghost use Rattle.key.specs.Same.{moments};
 ghost use Rattle.key.specs.Within.{reads, within_exact, within_every};
 ghost use Rattle.digits.proofs.Order.{first_then_bits};
 
-use crate::Key;
 use crate::kinds::Moment;
+use crate::{Key, OwnOrder};
 
 impl Key for Moment {
     const WIDTH: u32 = 48;
-
-    ghost WIDTH = { 48 };
 
     ghost width = { 48 };
 
@@ -22,10 +20,6 @@ impl Key for Moment {
     ghost key = { moment_of };
 
     ghost before = { moment_before };
-
-    ghost constant = { refl };
-
-    ghost compared = { Prim.search rules };
 
     ghost wide = { Prim.search rules };
 
@@ -39,6 +33,10 @@ impl Key for Moment {
 
     ghost ordered = { λ a b. first_then_bits _ a.second a.sequence b.second b.sequence a.fits.1 b.fits.1 };
 
+    fn bit_width() -> u32 {
+        Self::WIDTH
+    }
+
     fn to_bits(&self) -> u64 {
         self.second as u64 * 0x1_0000 + self.sequence as u64
     }
@@ -49,4 +47,8 @@ impl Key for Moment {
             sequence: (number % 0x1_0000) as u16,
         })
     }
+}
+
+impl OwnOrder for Moment {
+    ghost compared = { Prim.search rules };
 }

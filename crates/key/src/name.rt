@@ -7,13 +7,11 @@ ghost use Rattle.digits.proofs.Sevens.{bytes_under};
 ghost use Rattle.key.specs.Within.{reads, within_exact, within_every};
 ghost use Rattle.digits.proofs.Order.{bytes_compared, bytes_order};
 
-use crate::Key;
 use crate::kinds::Name;
+use crate::{Key, OwnOrder};
 
 impl Key for Name {
     const WIDTH: u32 = 56;
-
-    ghost WIDTH = { 56 };
 
     ghost width = { 56 };
 
@@ -22,10 +20,6 @@ impl Key for Name {
     ghost key = { name_of };
 
     ghost before = { name_before };
-
-    ghost constant = { refl };
-
-    ghost compared = { λ a b. bytes_compared a.bytes b.bytes (a.long ∙ sym b.long) };
 
     ghost wide = { Prim.search rules };
 
@@ -39,6 +33,10 @@ impl Key for Name {
 
     ghost ordered = { λ a b. bytes_order a.bytes b.bytes (a.long ∙ sym b.long) (bytes_under a.bytes a.fits) (bytes_under b.bytes b.fits) };
 
+    fn bit_width() -> u32 {
+        Self::WIDTH
+    }
+
     fn to_bits(&self) -> u64 {
         let [a, b, c, d, e, f, g] = self.bytes;
         u64::from_be_bytes([0, a, b, c, d, e, f, g])
@@ -50,4 +48,8 @@ impl Key for Name {
         };
         Some(Name::new([a, b, c, d, e, f, g]))
     }
+}
+
+impl OwnOrder for Name {
+    ghost compared = { λ a b. bytes_compared a.bytes b.bytes (a.long ∙ sym b.long) };
 }

@@ -6,13 +6,11 @@ ghost use Rattle.key.specs.Same.{stations};
 ghost use Rattle.key.specs.Within.{reads, within_exact, within_every};
 ghost use Rattle.digits.proofs.Order.{first_then_bits};
 
-use crate::Key;
 use crate::kinds::Station;
+use crate::{Key, OwnOrder};
 
 impl Key for Station {
     const WIDTH: u32 = 32;
-
-    ghost WIDTH = { 32 };
 
     ghost width = { 32 };
 
@@ -21,10 +19,6 @@ impl Key for Station {
     ghost key = { station_of };
 
     ghost before = { station_before };
-
-    ghost constant = { refl };
-
-    ghost compared = { Prim.search rules };
 
     ghost wide = { Prim.search rules };
 
@@ -38,6 +32,10 @@ impl Key for Station {
 
     ghost ordered = { λ a b. first_then_bits _ a.piste a.decimetre b.piste b.decimetre a.fits.1 b.fits.1 };
 
+    fn bit_width() -> u32 {
+        Self::WIDTH
+    }
+
     fn to_bits(&self) -> u64 {
         self.piste as u64 * 0x100_0000 + self.decimetre as u64
     }
@@ -48,4 +46,8 @@ impl Key for Station {
             decimetre: (number % 0x100_0000) as u32,
         })
     }
+}
+
+impl OwnOrder for Station {
+    ghost compared = { Prim.search rules };
 }

@@ -5,13 +5,11 @@ ghost use Rattle.std.proofs.Common.{refl, rules};
 ghost use Rattle.key.specs.Same.{zones};
 ghost use Rattle.key.specs.Within.{reads, within_exact, within_every};
 
-use crate::Key;
 use crate::kinds::Zone;
+use crate::{Key, OwnOrder};
 
 impl Key for Zone {
     const WIDTH: u32 = 8;
-
-    ghost WIDTH = { 8 };
 
     ghost width = { 8 };
 
@@ -20,10 +18,6 @@ impl Key for Zone {
     ghost key = { zone_of };
 
     ghost before = { zone_before };
-
-    ghost constant = { refl };
-
-    ghost compared = { Prim.search rules };
 
     ghost wide = { Prim.search rules };
 
@@ -37,6 +31,10 @@ impl Key for Zone {
 
     ghost ordered = { Prim.search rules };
 
+    fn bit_width() -> u32 {
+        Self::WIDTH
+    }
+
     fn to_bits(&self) -> u64 {
         self.number as u64
     }
@@ -44,4 +42,8 @@ impl Key for Zone {
     fn from_bits(number: u64) -> Option<Zone> {
         Some(Zone::new(u8::try_from(number).ok()?))
     }
+}
+
+impl OwnOrder for Zone {
+    ghost compared = { Prim.search rules };
 }
