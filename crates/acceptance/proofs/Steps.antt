@@ -1,5 +1,5 @@
 -- One step more of a stage.
-use Rattle.std.proofs.Common.{◌≡◌, ℕ, ◌+◌, Bool, true, false, cond, Some, sym, arith}
+use Rattle.std.proofs.Common.{◌≡◌, ℕ, ◌+◌, ◌≤◌, Bool, true, false, cond, Some, sym, arith}
 use Rattle.dictionary.specs.Pairs.{Pairs, with_pair, accepts, one_more}
 use Rattle.acceptance.specs.Nodes.{node_of, links_of}
 use Rattle.acceptance.specs.Stages.{Filled, put, refused, Counted, none, more}
@@ -15,3 +15,14 @@ pub filled_more : {room round held i n h : ℕ} {f u : Pairs} (ok : Bool) → Fi
     Filled room round f held (i + 1) (n + cond ok 1 0) (cond ok (with_pair u (node_of i) (Some (links_of i round))) u) (cond ok (one_more (u (node_of i)) h) h)
 filled_more true so e = put so (sym e)
 filled_more {n} false so e = let z : n + 0 ≡ n = omega arith in rw z (refused so (sym e))
+
+-- ---- what a branch counted
+pub counted_one : (n m : ℕ) (b : Bool) → b ≡ true → m ≡ n + 1 → m ≡ n + cond b 1 0
+counted_one n m b e k = rw e k
+
+pub counted_none : (n m : ℕ) (b : Bool) → b ≡ false → m ≡ n → m ≡ n + cond b 1 0
+counted_none n m b e k = rw e (omega arith)
+
+pub counted_most : (n m i : ℕ) (b : Bool) → m ≡ n + cond b 1 0 → n ≤ i → m ≤ i + 1
+counted_most n m i true e h = omega (arith, e)
+counted_most n m i false e h = omega (arith, e)

@@ -1,6 +1,6 @@
 -- A tree of given nodes: the middle one above the trees of the others.
 --
---   lowest_none, lowest_log  the height of the lowest tree: of none, from the logarithm
+--   lowest_none, lowest_half, lowest_log, lowest_fits  the height of the lowest tree: of none, from the half, from the logarithm; it is small
 --   lower, same_low   it falls with the number, and is one height
 --   Halves, halves    the row around its middle
 --   built_none        no node
@@ -32,8 +32,17 @@ twice k = pow-add 2 1 k
 pub lowest_none : (n : ℕ) → n ≡ 0 → Lowest n 0
 lowest_none n e = (omega arith, omega arith)
 
+pub lowest_half : (n k : ℕ) → (n ≡ 0 → ⊥) → Lowest (n / 2) k → Lowest n (1 + k)
+lowest_half n k ne h = (omega (arith, twice k, h.0), omega (arith, twice k, h.1))
+
 pub lowest_log : (n k : ℕ) → 2 ^ k ≤ n → n < 2 * 2 ^ k → Lowest n (1 + k)
 lowest_log n k le lt = (omega (arith, twice k), omega (arith, twice k))
+
+pub lowest_fits : (n h : ℕ) → n ≤ 512 → Lowest n h → h < 11
+lowest_fits n h few l = elim (cases_lt h 11) [
+  | inl lt ↦ lt
+  | inr ge ↦ absurd (let m : 2 ^ 11 ≤ 2 ^ h = pow_mono {i = 11} ge in omega (arith, m, l.1))
+]
 
 pub lower : (n h a k : ℕ) → Lowest n h → Lowest a k → 1 ≤ n → 2 * a ≤ n → k < h
 lower n h a k ln la pos half = elim (cases_lt k h) [

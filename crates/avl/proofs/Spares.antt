@@ -1,6 +1,7 @@
 -- Free nodes and those in use.
 --
 --   shared_size   both together are 512
+--   shared_same   it matters only how often each index stands
 --   lent, took, given_back  an index at the end of the free ones
 --   all_free      all indices in their order
 use Rattle.std.proofs.Common.{◌≡◌, ℕ, zero, suc, ◌+◌, ◌<◌, ◌≤◌, cond, ◌&&◌, ltb, leb, List, [], ◌∷◌, ◌++◌, length, get_or, Some, None, Option, IsSome, ◌↔◌, refl, ap, ◌∙◌, inl, inr, arith, length-append}
@@ -28,6 +29,9 @@ pub shared_size : (used spare : List ℕ) → Shared used spare → length used 
 shared_size used spare s =
     let all : (m : ℕ) → times m (used ++ spare) ≡ cond (ltb m 512) 1 0 = λ m. times_append m used spare ∙ s m in
     omega (arith, length-append used spare, whole_long 512 (used ++ spare) (times_all (λ x. x < 512) (used ++ spare) (λ m h. inside m (omega (arith, all m)))) (λ m lt. all m ∙ small m lt))
+
+pub shared_same : (used more spare : List ℕ) → ((m : ℕ) → times m more ≡ times m used) → Shared used spare → Shared more spare
+shared_same used more spare is s m = omega (arith, is m, s m)
 
 pub lent : (used spare rest : List ℕ) (m : ℕ) → spare ≡ rest ++ m ∷ [] → Shared used spare → Lent used rest m
 lent used spare rest m is s =

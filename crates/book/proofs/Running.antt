@@ -72,6 +72,17 @@ running_more b u b' script before out part ys n k ran room is ek a =
 pub ran : {b b' : BookView} {script before out : List ℕ} {n : ℕ} → Running b script before n out b' → Ran b script before n out b'
 ran r = record { turns = r.turns; asked = r.asked; runs = r.runs; law = adds_frames (runs_adds r.runs); front = r.front; rest = r.rest }
 
+-- up to its end or for 32 bytes, the part of a script is the same
+pub part_cut : (script : List ℕ) (i : ℕ) → take (min (32 * i + 32) (length script) - 32 * i) (drop (32 * i) script) ≡ piece script i
+part_cut script i =
+    let long = length-drop (32 * i) script in
+    ⊎_elim
+    (λ (h : length script < 32 * i + 32).
+    take_all (min (32 * i + 32) (length script) - 32 * i) (drop (32 * i) script) (omega arith) ∙ sym (take_all 32 (drop (32 * i) script) (omega arith)))
+    (λ (h : 32 * i + 32 ≤ length script).
+    let e : min (32 * i + 32) (length script) - 32 * i ≡ 32 = omega arith in ap (λ (k : ℕ). take k (drop (32 * i) script)) e)
+    (cases_lt (length script) (32 * i + 32))
+
 -- ---- a script in parts of 32 bytes, the last one perhaps shorter
 pub record Reading (script rest : List ℕ) (n : ℕ) : Type 0 where
   pub rest_is : rest ≡ drop (32 * n) script

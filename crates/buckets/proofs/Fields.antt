@@ -1,8 +1,10 @@
 -- A record written among the records, field by field.
 --
+--   with_from                       equal functions with the same value put in
 --   with_own                        a function with one of its own values put in again is the same
 --   Says                            what records say, and how many they are
 --   written                         one record replaced: each field of that number alters, and nothing else
+--   rewritten                       what a table's records say, each function written otherwise
 --   sized, rooted, ahead_of, back_of   one field of one record replaced
 use Rattle.std.proofs.Common.{◌≡◌, ℕ, ◌<◌, eqb, List, length, get_or, set, refl, sym, ap, ◌∙◌, inl, inr, length-set}
 use mathlib.Core.Path.{fun_ext}
@@ -11,13 +13,18 @@ use Rattle.std.proofs.lemmas.Bool.{cases_eq, eq-eqb, ne_eqb, cond-true, cond-fal
 use Rattle.links.specs.Orders.{with_at}
 use Rattle.links.proofs.Orders.{with_same, with_other}
 use Rattle.buckets.specs.declared.Bucket.{Bucket}
+use Rattle.buckets.specs.declared.Table.{Table}
 use Rattle.buckets.specs.Rings.{no_bucket, rep_in, size_in, root_in, prev_in, next_in}
+use Rattle.buckets.specs.Tables.{Reads}
 
-with_own : (f : ℕ → ℕ) (i v : ℕ) → v ≡ f i → with_at f i v ≡ f
+pub with_own : (f : ℕ → ℕ) (i v : ℕ) → v ≡ f i → with_at f i v ≡ f
 with_own f i v e = fun_ext (λ n. elim (cases_eq n i) [
   | inl q ↦ with_same f i v n q ∙ e ∙ ap f (sym q)
   | inr q ↦ with_other f i v n q
 ])
+
+pub with_from : (f g : ℕ → ℕ) (i v : ℕ) → f ≡ g → with_at f i v ≡ with_at g i v
+with_from f g i v e = ap (λ h. with_at h i v) e
 
 set_field : (f : Bucket → ℕ) (rs : List Bucket) (i : ℕ) (b : Bucket) → i < length rs → ◌≡◌ {A = ℕ → ℕ} (λ n. f (get_or (set rs i b) n no_bucket)) (with_at (λ n. f (get_or rs n no_bucket)) i (f b))
 set_field f rs i b h = fun_ext (λ n. elim (cases_eq n i) [
@@ -43,6 +50,19 @@ written rs i b h = record {
   prev = set_field (λ (b : Bucket). b.prev) rs i b h;
   next = set_field (λ (b : Bucket). b.next) rs i b h;
   long = length-set rs i b;
+}
+
+-- the same, each function written otherwise
+pub rewritten : (t u : Table) {a b c d e a' b' c' d' e' : ℕ → ℕ} → Reads t u a b c d e → a ≡ a' → b ≡ b' → c ≡ c' → d ≡ d' → e ≡ e' → Reads t u a' b' c' d' e'
+rewritten t u r p q s v w = record {
+  rep = r.rep ∙ p;
+  size = r.size ∙ q;
+  root = r.root ∙ s;
+  prev = r.prev ∙ v;
+  next = r.next ∙ w;
+  count = r.count;
+  free = r.free;
+  long = r.long;
 }
 
 -- the record of i with one field replaced

@@ -1,12 +1,16 @@
 -- The overflow row, which is packed at its front.
-use Rattle.std.proofs.Common.{rules, ◌≡◌, ℕ, ◌+◌, ◌-◌, ◌<◌, ◌≤◌, List, length, drop, take, set, replicate, ap, ◌∙◌, ⊎_elim, arith}
+use Rattle.std.proofs.Common.{rules, ◌≡◌, ℕ, ◌+◌, ◌-◌, ◌<◌, ◌≤◌, List, length, drop, take, set, replicate, sym, ap, ◌∙◌, ⊎_elim, arith}
 use Rattle.std.proofs.lemmas.List.{get_or-drop, get_or-take, length-drop, length-take-le}
-use Rattle.std.proofs.lemmas.Bool.{cases_lt}
+use Rattle.std.proofs.lemmas.Bool.{cases_lt, cases_eq}
 use Rattle.slots.specs.declared.Slot.{Slot}
 use Rattle.slots.specs.Slots.{blank, node_at, held}
-use Rattle.slots.proofs.Rows.{taken_within, fresh_node}
+use Rattle.slots.proofs.Rows.{node_same, node_other, taken_within, fresh_node}
 use Rattle.slots.proofs.Counts.{held_packed, held_drop}
 use Rattle.cuckoo.specs.Layout.{Packed}
+
+-- a row with the same nodes in its overflow part
+packed_like : (xs ys : List Slot) (n : ℕ) → ((k : ℕ) → node_at ys (1024 + k) ≡ node_at xs (1024 + k)) → Packed xs n → Packed ys n
+packed_like xs ys n like packed = (λ k h. omega (arith, like k, packed.0 k h), λ k h. like k ∙ packed.1 k h)
 
 module _ (xs : List Slot) (n : ℕ) (packed : Packed xs n) where
   -- as many pairs stand there as slots are said to be taken
@@ -37,6 +41,16 @@ module _ (xs : List Slot) (n : ℕ) (packed : Packed xs n) where
   -- a slot of the two rows is written
   pub packed_below : (p : ℕ) (c : Slot) → p < length xs → p < 1024 → Packed (set xs p c) n
   packed_below p c within low = search rules
+
+  -- a node gets new links
+  pub packed_renew : (p : ℕ) (c : Slot) → p < length xs → node_at xs p ≡ c.node → Packed (set xs p c) n
+  packed_renew p c within same =
+      packed_like xs (set xs p c) n
+      (λ k. ⊎_elim
+      (λ (a : 1024 + k ≡ p). ap (node_at (set xs p c)) a ∙ node_same xs p c within ∙ sym same ∙ sym (ap (node_at xs) a))
+      (λ (na : 1024 + k ≡ p → ⊥). node_other xs p c within (1024 + k) na)
+      (cases_eq (1024 + k) p))
+      packed
 
   -- a pair spills to the first free slot
   pub packed_spill : (c : Slot) → 1024 + n < length xs → 0 < c.node → Packed (set xs (1024 + n) c) (n + 1)

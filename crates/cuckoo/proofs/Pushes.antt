@@ -1,11 +1,11 @@
 -- A put that carries a pair from home to home.
 use Rattle.std.proofs.Common.{rules, ◌≡◌, ℕ, ◌+◌, ◌<◌, List, length, get_or, set, arith}
 use Rattle.slots.specs.declared.Slot.{Slot}
-use Rattle.slots.specs.Slots.{blank, node_at, held}
-use Rattle.slots.proofs.Carried.{Carried, swapped}
-use Rattle.cuckoo.specs.Homes.{home_of}
+use Rattle.slots.specs.Slots.{blank, node_at, held, Apart, Absent}
+use Rattle.slots.proofs.Carried.{Carried, carried_start, swapped}
+use Rattle.cuckoo.specs.Homes.{first_of, home_of}
 use Rattle.cuckoo.specs.Layout.{Placed, Packed}
-use Rattle.cuckoo.proofs.Standing.{placed_set}
+use Rattle.cuckoo.proofs.Standing.{first_below, home_first, placed_set}
 use Rattle.cuckoo.proofs.Packing.{packed_below, packed_few, packed_spill}
 
 -- the pair c is carried to its home at
@@ -15,6 +15,10 @@ pub record Pushing (xs₀ : List Slot) (new : Slot) (n : ℕ) (xs : List Slot) (
   pub packed : Packed xs n
   pub below : at < 1024
   pub home : home_of at c.node ≡ at
+
+pub push_start : (xs : List Slot) (n : ℕ) (c : Slot) (at : ℕ) → at ≡ first_of c.node → length xs ≡ 1792 → Placed xs → Packed xs n → Apart xs → 0 < c.node → Absent xs c.node → Pushing xs c n xs c at
+push_start xs n c at is long placed packed apart some absent =
+    record { carried = carried_start long apart some absent; placed = placed; packed = packed; below = omega (arith, first_below c.node); home = rw is (home_first c.node) }
 
 module _ {xs₀ : List Slot} {new : Slot} {n : ℕ} {xs : List Slot} {c : Slot} {at : ℕ} (s : Pushing xs₀ new n xs c at) where
   pub at_within : at < length xs

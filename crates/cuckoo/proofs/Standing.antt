@@ -15,6 +15,9 @@ pub second_within : (n : ℕ) → (512 ≤ second_of n) × (second_of n < 1024)
 unfolding second_of
 second_within n = search rules
 
+pub home_first : (n : ℕ) → home_of (first_of n) n ≡ first_of n
+home_first n = cond-true _ _ _ (lt-ltb (first_of n) 512 (first_below n))
+
 -- a node that is neither at its two homes nor in the taken part of the overflow row is nowhere
 pub nowhere : (xs : List Slot) (n spilled : ℕ) → Placed xs → Packed xs spilled → 0 < n → (node_at xs (first_of n) ≡ n → ⊥) → (node_at xs (second_of n) ≡ n → ⊥) → ((k : ℕ) → (1024 ≤ k) × (k < 1024 + spilled) → node_at xs k ≡ n → ⊥) → Absent xs n
 nowhere xs n spilled placed packed pos one two over i is =

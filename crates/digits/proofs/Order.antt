@@ -1,5 +1,5 @@
 -- Numbers made of a higher and a lower part are in the order of their parts.
-use Rattle.std.proofs.Common.{◌≡◌, Ordering, ℕ, suc, ◌+◌, ◌*◌, ◌^◌, ◌<◌, ◌&&◌, ◌||◌, eqb, ltb, List, [], ◌∷◌, length, refl, ap, ◌∙◌, inl, inr, mul-le-mul_right, mul_assoc, add-mul, zero-mul, mul-one, arith}
+use Rattle.std.proofs.Common.{◌≡◌, Ordering, ℕ, zero, suc, ◌+◌, ◌*◌, ◌^◌, ◌<◌, true, false, ◌&&◌, ◌||◌, eqb, ltb, List, [], ◌∷◌, length, get_or, refl, ap, ◌∙◌, inl, inr, mul-le-mul_right, mul_assoc, add-mul, zero-mul, mul-one, arith}
 use native.Mathlib.Nat.{pow-zero, pow-succ'}
 use Rattle.std.specs.Int.Digits.{number_from_digits, number_from_digits_after, AllBelowBase}
 use Rattle.std.proofs.lemmas.Int.Digits.{number_lt}
@@ -41,6 +41,31 @@ bytes_order (x ∷ xs) (y ∷ ys) e u v =
     let small : number_from_digits 256 ys < 256 ^ length xs = rw same (number_lt 256 ys v.1) in
     let parts = first_then_bits (256 ^ length xs) x (number_from_digits 256 xs) y (number_from_digits 256 ys) (number_lt 256 xs u.1) small in
     rw (number_first 256 x xs, number_first 256 y ys, ← same, bytes_order xs ys same u.1 v.1) parts
+
+-- the first difference decides
+pub differ_at : (xs ys : List ℕ) (i : ℕ) → length xs ≡ length ys → i < length xs → ((j : ℕ) → j < i → get_or xs j 0 ≡ get_or ys j 0) → (get_or xs i 0 ≡ get_or ys i 0 → ⊥) → byte_by_byte xs ys ≡ ltb (get_or xs i 0) (get_or ys i 0)
+differ_at [] ys i e h same other = absurd (omega arith)
+differ_at (x ∷ xs) [] i e h same other = absurd (omega (arith, e))
+differ_at (x ∷ xs) (y ∷ ys) zero e h same other = elim (cases_lt x y) [
+  | inl l ↦ grind (arith, nat_tests)
+  | inr l ↦ (let g : y < x = elim (cases_lt y x) [ inl m ↦ m | inr m ↦ absurd (other (omega arith)) ] in grind (arith, nat_tests))
+]
+differ_at (x ∷ xs) (y ∷ ys) (suc i) e h same other =
+    let first : x ≡ y = same 0 (omega arith) in
+    let rest = differ_at xs ys i (omega (arith, e)) (omega arith) (λ j l. same (suc j) (omega arith)) other in
+    let same_first : ltb x y ≡ false = grind (arith, nat_tests) in
+    let equal_first : eqb x y ≡ true = grind (arith, nat_tests) in
+    ap (λ b. b || (eqb x y && byte_by_byte xs ys)) same_first ∙ (ap (λ b. b && byte_by_byte xs ys) equal_first ∙ rest)
+
+pub differ_nowhere : (xs ys : List ℕ) → length xs ≡ length ys → ((j : ℕ) → j < length xs → get_or xs j 0 ≡ get_or ys j 0) → byte_by_byte xs ys ≡ false
+differ_nowhere [] ys e same = refl
+differ_nowhere (x ∷ xs) [] e same = refl
+differ_nowhere (x ∷ xs) (y ∷ ys) e same =
+    let first : x ≡ y = same 0 (omega arith) in
+    let rest = differ_nowhere xs ys (omega (arith, e)) (λ j l. same (suc j) (omega arith)) in
+    let same_first : ltb x y ≡ false = grind (arith, nat_tests) in
+    let equal_first : eqb x y ≡ true = grind (arith, nat_tests) in
+    ap (λ b. b || (eqb x y && byte_by_byte xs ys)) same_first ∙ (ap (λ b. b && byte_by_byte xs ys) equal_first ∙ rest)
 
 first_compared : (x y : ℕ) (o : Ordering) → is_lt (ordering_then (nat_cmp x y) o) ≡ ltb x y || (eqb x y && is_lt o)
 first_compared x y o = grind (arith, nat_tests)

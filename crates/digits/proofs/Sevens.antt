@@ -1,5 +1,5 @@
 -- Seven bytes and the number that they write.
-use Rattle.std.proofs.Common.{◌≡◌, ℕ, ◌/◌, ◌%◌, ◌^◌, ◌<◌, List, [], ◌∷◌, length, get_or, arith}
+use Rattle.std.proofs.Common.{◌≡◌, ℕ, ◌+◌, ◌*◌, ◌/◌, ◌%◌, ◌^◌, ◌<◌, List, [], ◌∷◌, length, get_or, arith}
 use Rattle.std.specs.Int.Digits.{number_from_digits, AllBelowBase}
 use Rattle.std.proofs.ByRecursion.{All-from_get_or}
 use Rattle.digits.specs.Parts.{seven}
@@ -36,3 +36,15 @@ seven_of (a ∷ b ∷ c ∷ d ∷ f ∷ g ∷ h ∷ i ∷ is) e u = absurd (omeg
 
 pub bytes_under : (bs : List ℕ) → ((i : ℕ) → get_or bs i 0 < 2 ^ 8) → AllBelowBase 256 bs
 bytes_under bs u = All-from_get_or (λ d. d < 256) bs 0 (λ i _. u i)
+
+-- the number of seven bytes, written out
+pub seven_weighs : (bs : List ℕ) → length bs ≡ 7 → number_from_digits 256 bs ≡ get_or bs 0 0 * 2 ^ 48 + get_or bs 1 0 * 2 ^ 40 + get_or bs 2 0 * 2 ^ 32 + get_or bs 3 0 * 2 ^ 24 + get_or bs 4 0 * 2 ^ 16 + get_or bs 5 0 * 2 ^ 8 + get_or bs 6 0
+seven_weighs [] e = absurd (omega (arith, e))
+seven_weighs (a ∷ []) e = absurd (omega (arith, e))
+seven_weighs (a ∷ b ∷ []) e = absurd (omega (arith, e))
+seven_weighs (a ∷ b ∷ c ∷ []) e = absurd (omega (arith, e))
+seven_weighs (a ∷ b ∷ c ∷ d ∷ []) e = absurd (omega (arith, e))
+seven_weighs (a ∷ b ∷ c ∷ d ∷ f ∷ []) e = absurd (omega (arith, e))
+seven_weighs (a ∷ b ∷ c ∷ d ∷ f ∷ g ∷ []) e = absurd (omega (arith, e))
+seven_weighs (a ∷ b ∷ c ∷ d ∷ f ∷ g ∷ h ∷ []) e = omega arith
+seven_weighs (a ∷ b ∷ c ∷ d ∷ f ∷ g ∷ h ∷ i ∷ is) e = absurd (omega (arith, e))

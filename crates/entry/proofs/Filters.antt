@@ -9,7 +9,7 @@
 --   put-…, without-…      changes to one of two joined lists
 --   three_long            below, at and above make up the length
 --   put_long, without_long the lengths after a change
---   final_append          the last entry of two joined lists
+--   first_append, final_append the first and the last entry of two joined lists
 --   …-past                each filter at a first entry below the key
 --   between-…             spans of joined lists
 use Rattle.std.proofs.Common.{◌≡◌, ℕ, ◌+◌, ◌<◌, ◌≤◌, Bool, true, false, eqb, ltb, leb, List, [], ◌∷◌, ◌++◌, length, filter, sym, refl, ap, ◌∙◌, inl, inr, append_assoc, arith, length-append}
@@ -20,7 +20,7 @@ use Rattle.std.proofs.ByRecursion.{all_kept_by}
 use Rattle.std.proofs.lemmas.List.{append-nil}
 use Rattle.std.proofs.lemmas.Bool.{lt-ltb, le-ltb, le-leb, lt-leb, eq-eqb, ne_eqb, cond-true, cond-false, cases_order}
 use Rattle.entry.specs.declared.Entry.{Entry}
-use Rattle.entry.specs.Lists.{below, at, above, from, upto, between, put, without, final, Over, Under}
+use Rattle.entry.specs.Lists.{below, at, above, from, upto, between, put, without, filled, first, final, Over, Under}
 
 pub kept_all : {X : Type 0} (p : X → Bool) (P : X → Type 0) → ((x : X) → P x → p x ≡ true) → (xs : List X) → AllByRecursion P xs → filter p xs ≡ xs
 kept_all p P f [] h = refl
@@ -159,6 +159,10 @@ without_long k xs = omega (arith, length-append (below k xs) (above k xs), three
 -- the entries of a span, in two steps
 pub between_append : (a b : ℕ) (xs ys : List Entry) → between a b (xs ++ ys) ≡ between a b xs ++ between a b ys
 between_append a b xs ys = ap (from a) (filter-append _ xs ys) ∙ filter-append _ (upto b xs) (upto b ys)
+
+pub first_append : (xs ys : List Entry) → filled xs ≡ true → first (xs ++ ys) ≡ first xs
+first_append [] ys h = absurd (let z : ◌≡◌ {A = ℕ} 0 1 = cc in omega arith)
+first_append (x ∷ xs) ys h = refl
 
 pub final_append : (xs : List Entry) (y : Entry) (ys : List Entry) → final (xs ++ y ∷ ys) ≡ final (y ∷ ys)
 final_append [] y ys = refl

@@ -2,6 +2,7 @@ pub mod Adds
 pub mod Beside
 pub mod Enter
 pub mod Finds
+pub mod Fresh
 pub mod Lawful
 pub mod Lists
 pub mod Merges

@@ -51,6 +51,16 @@ module _ (xs : List Slot) (b : ℕ) (long : length xs ≡ 1024) (spread : Spread
       }
 
 module _ {xs₀ : List Slot} {b : ℕ} {xs : List Slot} {k : ℕ} (s : Hole xs₀ b xs k) where
+  -- the follower stays
+  pub hole_end : rank_at xs ((b + k + 1) % 1024) ≤ 1 → Spread xs
+  hole_end low j =
+      ⊎_elim
+      (λ (a : j % 1024 ≡ (b + k) % 1024).
+      let e : (j + 1) % 1024 ≡ (b + k + 1) % 1024 = omega arith in
+      omega (arith, ap (rank_at xs) e))
+      (λ (na : j % 1024 ≡ (b + k) % 1024 → ⊥). s.spread j na)
+      (cases_eq (j % 1024) ((b + k) % 1024))
+
   -- the follower moves back into the hole
   module _ (high : 1 < rank_at xs ((b + k + 1) % 1024)) (few : k < 1023) where
     abbrev n : ℕ

@@ -1,5 +1,6 @@
 -- Homes, displacements and ranks on the ring of 1,024 slots.
-use Rattle.std.proofs.Common.{rules, ◌≡◌, ℕ, zero, suc, ◌+◌, ◌%◌, ◌<◌, ◌≤◌, ◌≢◌, List, length, set, replicate, ap, arith}
+use Rattle.std.proofs.Common.{rules, ◌≡◌, ℕ, zero, suc, ◌+◌, ◌%◌, ◌<◌, ◌≤◌, ◌≢◌, List, length, set, replicate, sym, ap, ◌∙◌, ⊎_elim, arith}
+use Rattle.std.proofs.lemmas.Bool.{cases_eq}
 use Rattle.std.proofs.lemmas.Bool.Decides.{nat_tests}
 use Rattle.slots.specs.declared.Slot.{Slot}
 use Rattle.robin_hood.specs.Homes.{home_of, away_of, rank_of}
@@ -60,6 +61,13 @@ module _ (xs : List Slot) (p : ℕ) (c : Slot) (within : p < length xs) where
 -- the slot at t is written, and its rank falls neither below the old nor rises past what the slot before allows
 pub spread_set : (xs : List Slot) (t : ℕ) (c : Slot) → length xs ≡ 1024 → Spread xs → rank_of (t % 1024) c.node ≤ rank_at xs ((t + 1023) % 1024) + 1 → rank_at xs (t % 1024) ≤ rank_of (t % 1024) c.node → Spread (set xs (t % 1024) c)
 spread_set xs t c long s fits up j = search rules
+
+-- the node in a slot stays
+pub spread_same : (xs : List Slot) (p : ℕ) (c : Slot) → p < length xs → Spread xs → node_at xs p ≡ c.node → Spread (set xs p c)
+spread_same xs p c within s same j =
+    let like : (i : ℕ) → rank_at (set xs p c) i ≡ rank_at xs i = λ i.
+    ⊎_elim (λ (a : i ≡ p). rank_same xs p c within i a ∙ ap (rank_of p) (sym same) ∙ sym (ap (rank_at xs) a)) (λ (na : i ≡ p → ⊥). rank_other xs p c within i na) (cases_eq i p) in
+    omega (arith, s j, like ((j + 1) % 1024), like (j % 1024))
 
 -- a row of empty slots
 pub fresh_spread : (n : ℕ) → Spread (replicate n blank)

@@ -24,6 +24,9 @@ pub record Walked (xs : List Slot) (n h k : ℕ) : Type 0 where
   pub some : 0 < n
   pub passed : (j : ℕ) → j < k → Passes xs n ((home_of n + j) % 1024)
 
+pub walk_start : (xs : List Slot) (n h : ℕ) → h ≡ home_of n → length xs ≡ 1024 → 0 < n → Walked xs n h 0
+walk_start xs n h home long some = record { home = home; long = long; some = some; passed = λ j l. absurd (omega arith) }
+
 module _ {xs : List Slot} {n h k : ℕ} (w : Walked xs n h k) where
   abbrev at : ℕ
   at = (h + k) % 1024

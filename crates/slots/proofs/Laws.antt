@@ -14,5 +14,8 @@ module _ (f : Pairs) (count capacity n : ℕ) where
   pub accepts_held : {v : Links} → 0 < n → f n ≡ Some v → accepts f count capacity n ≡ true
   accepts_held pos e = grind (arith, nat_tests, ap is_some e)
 
+  pub accepts_room : 0 < n → count < capacity → accepts f count capacity n ≡ true
+  accepts_room pos h = grind (arith, nat_tests)
+
   pub accepts_full : f n ≡ None → capacity ≤ count → accepts f count capacity n ≡ false
   accepts_full e h = grind (arith, nat_tests, ap is_some e)

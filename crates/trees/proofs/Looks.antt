@@ -1,18 +1,20 @@
 -- What a look down a tree answers, from the answer below the root.
 --
---   saw_here, saw_more, saw_or  at the key's own place; one place higher; there, if none was found behind
+--   saw_none, saw_here, saw_step  at the end of a path; at the key's own place; one place higher
+--   saw_more, saw_or    one place higher with the same entry; there, if none was found behind
 --   saw_few             its visits are few
+--   foremost-…, hindmost-…  what an answer tells of the list
 --   front_or, back_or   the first and the last entry of joined lists
 --   at-…, from-…, upto-…  the filters at a key, below the root's key, at it, above it
 --   path-…              the search path likewise
 --   span-…              the span likewise
 --   walk-…, count_open  the indices likewise
 --   span_few            a span has no more entries than the pool
-use Rattle.std.proofs.Common.{◌≡◌, ℕ, ◌+◌, ◌<◌, ◌≤◌, max, leb, List, [], ◌∷◌, ◌++◌, length, Some, Option, sym, refl, ap, ◌∙◌, arith, length-append}
+use Rattle.std.proofs.Common.{◌≡◌, ℕ, ◌+◌, ◌<◌, ◌≤◌, max, true, leb, List, [], ◌∷◌, ◌++◌, length, Some, None, Option, sym, refl, ap, ◌∙◌, arith, length-append}
 use Rattle.std.specs.Option.{option_or}
 use Rattle.std.proofs.lemmas.List.{append-nil}
 use Rattle.entry.specs.declared.Entry.{Entry}
-use Rattle.entry.specs.Lists.{at, from, upto, between, Over, Under}
+use Rattle.entry.specs.Lists.{at, from, upto, between, filled, first, final, Over, Under}
 use Rattle.entry.proofs.Filters.{at_left, at_right, from_left, from_right, upto_left, upto_right, key_at, key_from, key_upto, final_append, between_append, under_between, over_between, between_in, kept_short, at_past, from_past, upto_past}
 use Rattle.entry.proofs.Orders.{over_less, under_more}
 use Rattle.trees.specs.declared.Found.{Found}
@@ -25,8 +27,15 @@ use Rattle.trees.proofs.Counts.{times_append}
 use Rattle.trees.proofs.Paths.{seen_here, seen_left, seen_right}
 use Rattle.trees.proofs.Pools.{Opened, low, size}
 
+pub saw_none : (e : Option Entry) (n : ℕ) (t : Tree) → None ≡ e → 0 ≡ n → Saw (record { entry = None; visits = 0 }) e n t
+saw_none e n t is zero_is = record { entry = is; visits = zero_is; few = omega arith }
+
 pub saw_here : {y : Found} {x : Entry} {e : Option Entry} {n : ℕ} {t : Tree} → y ≡ record { entry = Some x; visits = 1 } → e ≡ Some x → n ≡ 1 → 1 ≤ tall t → Saw y e n t
 saw_here made is one_is pos = rw made (record { entry = sym is; visits = sym one_is; few = pos })
+
+pub saw_step : (r : Found) (x e e' : Option Entry) (n n' : ℕ) (t t' : Tree) → Saw r e n t → x ≡ e' → n' ≡ n + 1 → 1 + tall t ≤ tall t'
+    → Saw (record { entry = x; visits = r.visits + 1 }) e' n' t'
+saw_step r x e e' n n' t t' s is more up = record { entry = is; visits = omega (arith, s.visits); few = omega (arith, s.few) }
 
 pub saw_more : {y r : Found} {e e' : Option Entry} {n n' : ℕ} {t t' : Tree} → y ≡ record { entry = r.entry; visits = r.visits + 1 } → Saw r e n t → e' ≡ e → n' ≡ n + 1 → 1 + tall t ≤ tall t' → Saw y e' n' t'
 saw_more made s is more up = rw made (record { entry = s.entry ∙ sym is; visits = omega (arith, s.visits); few = omega (arith, s.few) })
@@ -36,6 +45,23 @@ saw_or x made s is more up = rw made (record { entry = ap (λ z. option_or z (So
 
 pub saw_few : {ns : List Node} {root : ℕ} {r : Found} {e : Option Entry} {n : ℕ} → Standing ns root → Saw r e n (tree_at ns root) → r.visits < 512
 saw_few s r = omega (arith, low _ _ _ s, r.few)
+
+-- what an answer tells of the list
+pub foremost_some : (xs : List Entry) (e : Entry) → foremost xs ≡ Some e → (filled xs ≡ true) × (first xs ≡ e)
+foremost_some [] e h = absurd (let z : ◌≡◌ {A = ℕ} 0 1 = cc in omega arith)
+foremost_some (x ∷ xs) e h = (refl, cc)
+
+pub foremost_none : (xs : List Entry) → foremost xs ≡ None → xs ≡ []
+foremost_none [] h = refl
+foremost_none (x ∷ xs) h = absurd (let z : ◌≡◌ {A = ℕ} 0 1 = cc in omega arith)
+
+pub hindmost_some : (xs : List Entry) (e : Entry) → hindmost xs ≡ Some e → (filled xs ≡ true) × (final xs ≡ e)
+hindmost_some [] e h = absurd (let z : ◌≡◌ {A = ℕ} 0 1 = cc in omega arith)
+hindmost_some (x ∷ xs) e h = (refl, cc)
+
+pub hindmost_none : (xs : List Entry) → hindmost xs ≡ None → xs ≡ []
+hindmost_none [] h = refl
+hindmost_none (x ∷ xs) h = absurd (let z : ◌≡◌ {A = ℕ} 0 1 = cc in omega arith)
 
 pub front_or : (xs : List Entry) (y : Entry) (ys : List Entry) → option_or (foremost xs) (Some y) ≡ foremost (xs ++ y ∷ ys)
 front_or [] y ys = refl
