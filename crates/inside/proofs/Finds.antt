@@ -10,6 +10,8 @@ use Rattle.ordered.specs.declared.refusal.Refusal.{Refusal}
 use Rattle.ordered.specs.declared.refusal.Refusal.TheVariants.{TooLarge}
 use Rattle.ordered.specs.Sorted.{misfit, large}
 use Rattle.runs.specs.States.{State, Answered, Step}
+use Rattle.key.specs.Widths.{needed}
+use Rattle.trie.specs.Sound.{Sound as TrieSound}
 use Rattle.inside.specs.declared.Inside.{Inside}
 use Rattle.ordered.specs.Answers.{no_of}
 use Rattle.inside.specs.Whole.{Whole, Sound, Does, limit_of, state_of}
@@ -39,6 +41,12 @@ open_does w f f' tally n o o' i c ps a a' s s' e q t =
     (subst (λ x. Step w i.limit (state_of f tally (Some i)) c ps a' (state_of f' n x)) (sym s')
     (subst (λ h. Step w i.limit (state_of f tally (Some i)) c ps a' (state_of h n (Some i))) (sym e)
     (subst (λ x. Step w i.limit (state_of f tally (Some i)) c ps x (state_of f n (Some i))) (sym q) t)))
+
+-- what a call keeps that alters nothing but the tally
+pub sound_kept : (w : ℕ) (f f' : Pairs) (room room' tally n : ℕ) (o : Option Inside) → f' ≡ f → room' ≡ room → Sound w f room tally o → Sound w f' room' n o
+sound_kept w f f' room room' tally n None e r so = tt
+sound_kept w f f' room room' tally n (Some i) e r so =
+    record { trie = subst (λ h. TrieSound w h i.grove.table) (sym e) so.trie; buckets = so.buckets; notes = so.notes; counted = so.counted; small = so.small; fits = subst (λ x. needed w i.limit ≤ x) (sym r) so.fits }
 
 -- a call that is barred there changes nothing
 pub barred_does : (w : ℕ) (f : Pairs) (room tally : ℕ) (o o' : Option Inside) (i : Inside) → 8 ≤ w → tally < 2 ^ 64 → o ≡ Some i → o' ≡ Some i → Sound w f room tally o →
