@@ -48,6 +48,16 @@ impl Key for Name {
         };
         Some(Name::new([a, b, c, d, e, f, g]))
     }
+
+    // Up to the first byte that differs: sooner done than all seven as a number.
+    fn is_before(&self, other: &Name) -> bool {
+        for i in 0..7 {
+            if self.bytes[i] != other.bytes[i] {
+                return self.bytes[i] < other.bytes[i];
+            }
+        }
+        false
+    }
 }
 
 impl OwnOrder for Name {
